@@ -1,0 +1,5 @@
+pub mod Bits
+pub mod Wiring
+pub mod Function
+pub mod Evaluate
+pub mod Adder

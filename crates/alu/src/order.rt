@@ -1,0 +1,29 @@
+// "Comparisons are of two's complement values": of words with one sign the lower is less, else the negative one is.
+use crate::top;
+ghost use mathlib.Core.Path.{_≡_};
+ghost use Rattle.alu.specs.Function as F;
+ghost use Rattle.alu.specs.Evaluate as E;
+
+fn below(n: u32, a: u64, b: u64) -> bool
+    requires { ⌜ E.Operands n a b ⌝ }
+    ensures { λ r. ⌜ r ≡ F.below n a b ⌝ }
+{
+    if top(n, a) {
+        if top(n, b) { a < b } else { true }
+    } else {
+        if top(n, b) { false } else { a < b }
+    }
+}
+
+pub fn compared(n: u32, less: bool, equal: bool, greater: bool, left: u64, right: u64) -> bool
+    requires { ⌜ E.Operands n left right ⌝ }
+    ensures { λ r. ⌜ r ≡ F.compared n less equal greater left right ⌝ }
+{
+    if below(n, left, right) {
+        return less;
+    }
+    if below(n, right, left) {
+        return greater;
+    }
+    equal
+}

@@ -1,0 +1,36 @@
+-- The tables of one place, as the code looks them up.
+use mathlib.Core.Path.{_≡_, refl, sym}
+use mathlib.Core.Bool.{Bool, true, false, not, Bool·beq, false≢true}
+use mathlib.Core.List.{List, [], _∷_}
+use Prim.Native.Nat.{ℕ, _≤_, _/_, _%_}
+use native.Mathlib.Nat.{div-one}
+use lib.Dec.{eqb}
+use lib.ListN.{List·getD-eq-default}
+use Rattle.alu.specs.Bits.{bit}
+use Rattle.alu.specs.Function.{minterm}
+use Rattle.automaton.specs.Place.{wire}
+
+pub wire-past : (code : ℕ) (x y : Bool) → 6 ≤ code → false ≡ wire code x y
+wire-past code x y h = sym (List·getD-eq-default (false ∷ true ∷ x ∷ not x ∷ y ∷ not y ∷ []) false h)
+
+pub same-as-true : (x y : Bool) → x ≡ true → y ≡ Bool·beq x y
+same-as-true true true e = refl
+same-as-true true false e = refl
+same-as-true false y e = absurd (false≢true e)
+
+module _ (v : ℕ) (x y : Bool) where
+  pub minterm-both : x ≡ true → y ≡ true → eqb (v % 2) 1 ≡ minterm v x y
+  unfolding bit
+  minterm-both e u = simp (e, u, div-one)
+
+  pub minterm-left : x ≡ true → y ≡ false → eqb (v / 2 % 2) 1 ≡ minterm v x y
+  unfolding bit
+  minterm-left e u = simp (e, u)
+
+  pub minterm-right : x ≡ false → y ≡ true → eqb (v / 4 % 2) 1 ≡ minterm v x y
+  unfolding bit
+  minterm-right e u = simp (e, u)
+
+  pub minterm-neither : x ≡ false → y ≡ false → eqb (v / 8 % 2) 1 ≡ minterm v x y
+  unfolding bit
+  minterm-neither e u = simp (e, u)

@@ -1,0 +1,20 @@
+-- `binding::output::comparison` meets its contract.
+use borrow.Author.Needs.{needs}
+use Rattle.binding.proofs.Codes.{code-past, code-table}
+use Rattle.binding.proofs.output.comparison.Statement.{statement}
+use Rattle.binding.proofs.output.comparison.Tie as tie
+
+returns : tie.Need-returns
+returns c = search code-past
+
+exor-requires : tie.Need-exor-requires
+exor-requires c κs = search needs
+
+array-read-result : tie.Need-array-read-result
+array-read-result c = search needs
+
+returns-2 : tie.Need-returns-2
+returns-2 c = search code-table
+
+pub comparison-spec : {M : Type 1} → statement M
+comparison-spec = tie.close (tie.spec returns exor-requires array-read-result returns-2)

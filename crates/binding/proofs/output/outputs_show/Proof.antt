@@ -1,0 +1,38 @@
+-- `binding::output::outputs_show` meets its contract.
+use borrow.Author.Needs.{needs}
+use Rattle.binding.proofs.Codes.{output-parts}
+use Rattle.binding.proofs.output.outputs_show.Statement.{statement}
+use Rattle.binding.proofs.output.outputs_show.Tie as tie
+
+shown-word-requires : tie.Need-shown-word-requires
+shown-word-requires c κs = search needs
+
+shown-bit-requires : tie.Need-shown-bit-requires
+shown-bit-requires c κs = search needs
+
+shown-bit-requires-2 : tie.Need-shown-bit-requires-2
+shown-bit-requires-2 c κs = search needs
+
+ones-requires : tie.Need-ones-requires
+ones-requires c κs = search needs
+
+top-requires : tie.Need-top-requires
+top-requires c κs = search needs
+
+comparison-requires : tie.Need-comparison-requires
+comparison-requires c κs = search needs
+
+returns : tie.Need-returns
+returns c = search output-parts
+
+pub outputs-show-spec : {M : Type 1} → statement M
+outputs-show-spec =
+    tie.close
+    (tie.spec
+    shown-word-requires
+    shown-bit-requires
+    shown-bit-requires-2
+    ones-requires
+    top-requires
+    comparison-requires
+    returns)

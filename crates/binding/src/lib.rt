@@ -1,0 +1,120 @@
+// What a binding shows: document 01, "What a binding shows". A recipe's target works on wired inputs, and output codes show its ports.
+mod output;
+
+use alu::Kind;
+use alu::Ports;
+pub use output::comparison;
+pub use output::exor;
+pub use output::outputs_show;
+pub use output::shown_bit;
+ghost use mathlib.Core.Path.{_≡_};
+ghost use Prim.Native.Nat.{_^_, _<_};
+ghost use Rattle.alu.specs.Evaluate as E;
+ghost use Rattle.binding.specs.Binding as B;
+
+// A function on wired inputs.
+pub struct Side {
+    pub kind: Kind,
+    pub left: u32,
+    pub right: u32,
+    pub carry: u32,
+}
+
+// The codes of a recipe's outputs.
+pub struct Outputs {
+    pub main: u32,
+    pub cout: u32,
+    pub ovf: u32,
+    pub code: u32,
+}
+
+pub struct Recipe {
+    pub target: Side,
+    pub outputs: Outputs,
+}
+
+// A function on its own inputs.
+pub fn plain(function: u32) -> Side
+    ensures { λ r. ⌜ r ≡ B.plain function ⌝ }
+{
+    Side {
+        kind: alu::function_of(function),
+        left: 2,
+        right: 4,
+        carry: 2,
+    }
+}
+
+// A vector on the operands themselves, whose output is the main output.
+fn scratch(vector: u32) -> Recipe
+    ensures { λ r. ⌜ r ≡ B.scratch vector ⌝ }
+{
+    Recipe {
+        target: Side {
+            kind: Kind::Logic(vector),
+            left: 2,
+            right: 4,
+            carry: 2,
+        },
+        outputs: Outputs {
+            main: 1,
+            cout: 0,
+            ovf: 0,
+            code: 0,
+        },
+    }
+}
+
+fn from_target(fields: recipe::Fields) -> Recipe
+    ensures { λ r. ⌜ r ≡ B.fromTarget fields ⌝ }
+{
+    Recipe {
+        target: Side {
+            kind: alu::function_of(fields.target),
+            left: fields.left,
+            right: fields.right,
+            carry: fields.carry,
+        },
+        outputs: Outputs {
+            main: fields.main,
+            cout: fields.cout,
+            ovf: fields.ovf,
+            code: fields.code,
+        },
+    }
+}
+
+// The recipe that a word holds.
+pub fn recipe_of(word: u32) -> Recipe
+    ensures { λ r. ⌜ r ≡ B.recipeOf word ⌝ }
+{
+    if recipe::target_of(word) == 0 {
+        return scratch(recipe::vector_of(word));
+    }
+    from_target(recipe::unpack(word))
+}
+
+// The ports of a side.
+pub fn side_shows(side: Side, n: u32, left: u64, right: u64, carry: bool) -> Ports
+    requires { ⌜ E.Operands n left right ⌝ }
+    ensures { λ r. ⌜ (r ≡ B.sideShows side n left right carry) × (r .o0 < 2 ^ n) ⌝ }
+{
+    let kind = side.kind;
+    alu::ports_of(
+        kind,
+        n,
+        alu::wired(n, side.left, left, right),
+        alu::wired(n, side.right, left, right),
+        alu::carried(side.carry, carry),
+    )
+}
+
+// The ports of a recipe.
+pub fn shows(recipe: Recipe, n: u32, left: u64, right: u64, carry: bool) -> Ports
+    requires { ⌜ E.Operands n left right ⌝ }
+    ensures { λ r. ⌜ r ≡ B.shows recipe n left right carry ⌝ }
+{
+    let target = recipe.target;
+    let outputs = recipe.outputs;
+    outputs_show(outputs, n, side_shows(target, n, left, right, carry))
+}

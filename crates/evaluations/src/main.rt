@@ -1,0 +1,34 @@
+// Compares the evaluator with the reference: document 01's cases that carry no star, corner operands, random operands and values out
+// of range. A line for each group says how many inputs were compared and at how many of them the two differ; before it, where any do,
+// stands the first. The program is a test, so its contracts say only what safety needs.
+mod cases;
+mod corners;
+mod random;
+mod ranges;
+mod tally;
+
+use cases::at_width;
+use cases::vectors;
+use corners::corners;
+use random::random;
+use ranges::first_out_at;
+use tally::report;
+
+// By the first place that is out of range.
+fn report_ranges() {
+    report(b"function out of range", first_out_at(0));
+    report(b"width out of range", first_out_at(1));
+    report(b"left out of range", first_out_at(2));
+    report(b"right out of range", first_out_at(3));
+    report(b"carry out of range", first_out_at(4));
+    report(b"nothing out of range", first_out_at(5));
+}
+
+fn main() {
+    report(b"width 64 accepted", at_width(64, 5));
+    report(b"width 65 refused", at_width(65, 1));
+    report(b"vectors of Table 4", vectors());
+    report(b"corner operands", corners());
+    report(b"random operands", random());
+    report_ranges();
+}

@@ -1,0 +1,46 @@
+-- The ways out of reading a job.
+use mathlib.Core.Path.{_≡_, refl, sym, ap, _∙_}
+use mathlib.Core.List.{List}
+use Prim.Native.Nat.{ℕ, _<_, _≤_}
+use native.Mathlib.Omega.{arith}
+use lib.ListN.{length, getD}
+use borrow.Author.Tests.{lt-ltb, le-ltb}
+use Rattle.reader.specs.Kinds.{SOURCE, mostJobWords}
+use Rattle.reader.specs.Reading.{nothing, reading}
+use Rattle.reader.specs.Job.{factsOf, ended, jobOf}
+use Rattle.reader.specs.declared.sequence.File.the-variants.{AsJob}
+use Rattle.reader.specs.declared.sequence.State.{State}
+use Rattle.reader.specs.declared.step.Reading.{Reading}
+use Rattle.reader.specs.declared.step.Reading.the-variants.{Passed, Stopped}
+use Rattle.reader.specs.declared.Job.{Job}
+use Rattle.reader.specs.declared.JobRead.the-variants.{Accepted, Refused}
+use Rattle.reader.proofs.Limits.{none, many, between}
+use Rattle.reader.proofs.JobWords.{all-held}
+
+module _ (ws : List ℕ) where
+  pub no-words : length ws < 1 → Refused 1 0 ≡ jobOf ws
+  unfolding jobOf
+  no-words h = none mostJobWords (length ws) (Refused 1 0) _ h
+
+  pub many-words : mostJobWords < length ws → Refused 1 0 ≡ jobOf ws
+  unfolding jobOf
+  many-words h = many mostJobWords (length ws) (Refused 1 0) _ (omega arith) h
+
+  module _ (r : Reading) (e : r ≡ reading AsJob nothing 0 ws) (some : 1 ≤ length ws) (few : length ws ≤ mostJobWords) where
+    by-reading : jobOf ws ≡ ended ws r
+    unfolding jobOf
+    by-reading = between mostJobWords (length ws) (Refused 1 0) _ some few ∙ ap (ended ws) (sym e)
+
+    pub stopped : (n i : ℕ) → r ≡ Stopped n i → Refused n i ≡ jobOf ws
+    stopped n i p = sym (by-reading ∙ ap (ended ws) p)
+
+    module _ (s : State) (p : r ≡ Passed s) where
+      pub ended-early : s .kind < SOURCE → Refused 2 (length ws) ≡ jobOf ws
+      ended-early h = sym (by-reading ∙ ap (ended ws) p ∙ rw (lt-ltb (s .kind) SOURCE h) refl)
+
+      module _ (h : SOURCE ≤ s .kind) where
+        pub two-words : 1 < length ws
+        two-words = omega (arith, all-held ws s (sym e ∙ p) h)
+
+        pub accepted : (job : Job) → job ≡ factsOf (getD ws 0 0) (getD ws 1 0) s → Accepted job ≡ jobOf ws
+        accepted job u = sym (by-reading ∙ ap (ended ws) p ∙ rw (le-ltb (s .kind) SOURCE h) (ap Accepted (sym u)))

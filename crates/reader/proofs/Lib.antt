@@ -1,0 +1,10 @@
+pub mod Limits
+pub mod Steps
+pub mod Turns
+pub mod Parts
+pub mod Faultless
+pub mod JobWords
+pub mod JobAnswers
+pub mod MappingWords
+pub mod MappingAnswers
+pub mod Accepting

@@ -1,0 +1,5 @@
+pub mod Kinds
+pub mod Sequence
+pub mod Reading
+pub mod Job
+pub mod Mapping

@@ -1,0 +1,93 @@
+-- The ways out of the tests of refusals 3, 5 and 6.
+use mathlib.Core.Path.{_≡_, refl, sym, ap, ap₂, _∙_}
+use mathlib.Core.Bool.{Bool, true, false, not, _&&_}
+use Prim.Native.Nat.{ℕ, _/_, _^_}
+use lib.Bits.{bitAnd, and-mask}
+use lib.Dec.{eqb}
+use borrow.Author.Tests.{eq-eqb, ne-eqb, not-true, not-false}
+use Rattle.words.specs.Choice.{if_then_else_}
+use Rattle.words.specs.Field.{field}
+use Rattle.alu.specs.Function.{functionOf, drives}
+use Rattle.alu.specs.Evaluate.{isFunction}
+use Rattle.alu.specs.declared.PortSet.{PortSet}
+use Rattle.alu.specs.declared.Kind.{Kind}
+use Rattle.recipe.specs.Fields.{sourceOf, targetOf, fieldsOf}
+use Rattle.recipe.specs.Layout.{isLogic, scratchLaidOut, targetLaidOut, laidOut, reads, outputs, within, readsDriven, showsSource, recipeFault}
+use Rattle.recipe.specs.declared.Fields.{Fields}
+
+-- ---- scratch
+
+module _ (w s : ℕ) (b : Bool) (es : s ≡ sourceOf w) (eb : b ≡ isLogic s) where
+  is-logic : b ≡ isLogic (sourceOf w)
+  is-logic = eb ∙ ap isLogic es
+
+  pub logic-source : b ≡ true → eqb (bitAnd (w / 2 ^ 4) 16383) 0 ≡ scratchLaidOut w
+  unfolding scratchLaidOut
+  logic-source h = rw (sym is-logic ∙ h) (rw (and-mask (w / 2 ^ 4) 14) refl)
+
+  pub other-source : b ≡ false → false ≡ scratchLaidOut w
+  unfolding scratchLaidOut
+  other-source h = rw (sym is-logic ∙ h) refl
+
+-- ---- layout
+
+module _ (w s : ℕ) (b : Bool) (es : s ≡ sourceOf w) (eb : b ≡ isFunction s) where
+  source-known : b ≡ isFunction (sourceOf w)
+  source-known = eb ∙ ap isFunction es
+
+  pub no-source : not b ≡ true → false ≡ laidOut w
+  unfolding laidOut
+  no-source h = rw (sym source-known ∙ not-true b h) refl
+
+  module _ (t : ℕ) (et : t ≡ targetOf w) (hb : not b ≡ false) where
+    pub scratch-layout : (r : Bool) → t ≡ 0 → r ≡ scratchLaidOut w → r ≡ laidOut w
+    unfolding laidOut
+    scratch-layout r z e = rw (sym source-known ∙ not-false b hb) (rw (eq-eqb (targetOf w) 0 (sym et ∙ z)) e)
+
+    pub target-layout : (r : Bool) (u : Fields) → (t ≡ 0 → ⊥) → u ≡ fieldsOf w → r ≡ targetLaidOut u → r ≡ laidOut w
+    unfolding laidOut
+    target-layout r u z eu e =
+        rw (sym source-known ∙ not-false b hb)
+        (rw (ne-eqb (targetOf w) 0 (λ h. z (et ∙ h))) (e ∙ ap targetLaidOut eu))
+
+-- ---- ports
+
+pub driven : (r : Fields) (p q : PortSet) (K : Kind) (x : Bool) → p ≡ reads r → K ≡ functionOf (r .target) → q ≡ drives K → x ≡ within p q
+    → x ≡ readsDriven r
+unfolding readsDriven
+driven r p q K x ep ek eq ex = ex ∙ ap₂ within ep (eq ∙ ap drives ek)
+
+pub exact : (r : Fields) (p q : PortSet) (K : Kind) (x y : Bool) → p ≡ outputs r → K ≡ functionOf (r .source) → q ≡ drives K
+    → x ≡ within p q → y ≡ within q p → x && y ≡ showsSource r
+unfolding showsSource
+exact r p q K x y ep ek eq ex ey =
+    ap₂ _&&_ (ex ∙ ap₂ within ep (eq ∙ ap drives ek)) (ey ∙ ap₂ within (eq ∙ ap drives ek) ep)
+
+-- ---- the refusal
+
+module _ (w : ℕ) (b : Bool) (eb : b ≡ laidOut w) where
+  pub bad-layout : not b ≡ true → 3 ≡ recipeFault w
+  unfolding recipeFault
+  bad-layout h = rw (sym eb ∙ not-true b h) refl
+
+  module _ (hb : not b ≡ false) (t : ℕ) (et : t ≡ targetOf w) where
+    pub from-scratch : t ≡ 0 → 0 ≡ recipeFault w
+    unfolding recipeFault
+    from-scratch z = rw (sym eb ∙ not-false b hb) (rw (eq-eqb (targetOf w) 0 (sym et ∙ z)) refl)
+
+    module _ (z : t ≡ 0 → ⊥) (u : Fields) (eu : u ≡ fieldsOf w) (d : Bool) (ed : d ≡ readsDriven u) where
+      by-ports : recipeFault w ≡ (if d then (if showsSource (fieldsOf w) then 0 else 6) else 5)
+      unfolding recipeFault
+      by-ports =
+          rw (sym eb ∙ not-false b hb)
+          (rw (ne-eqb (targetOf w) 0 (λ h. z (et ∙ h))) (rw (ed ∙ ap readsDriven eu) refl))
+
+      pub undriven : not d ≡ true → 5 ≡ recipeFault w
+      undriven h = sym (by-ports ∙ rw (not-true d h) refl)
+
+      module _ (hd : not d ≡ false) (x : Bool) (ex : x ≡ showsSource u) where
+        pub other-ports : not x ≡ true → 6 ≡ recipeFault w
+        other-ports h = sym (by-ports ∙ rw (not-false d hd) (rw (sym (ex ∙ ap showsSource eu) ∙ not-true x h) refl))
+
+        pub no-fault : not x ≡ false → 0 ≡ recipeFault w
+        no-fault h = sym (by-ports ∙ rw (not-false d hd) (rw (sym (ex ∙ ap showsSource eu) ∙ not-false x h) refl))

@@ -1,0 +1,13 @@
+-- Document 01, "Words": bits of a word. "The top four bits are the kind."
+use Prim.Native.Nat.{ℕ, _/_, _%_, _^_}
+
+-- `size` bits of a word, of which bit `at` is the lowest
+abbrev pub field : ℕ → ℕ → ℕ → ℕ
+field w at size = w / 2 ^ at % 2 ^ size
+
+abbrev pub kindOf : ℕ → ℕ
+kindOf w = field w 28 4
+
+-- what stands below the kind
+abbrev pub contentOf : ℕ → ℕ
+contentOf w = field w 0 28
