@@ -1,5 +1,5 @@
 -- Document 01, "Words": bits of a word. "The top four bits are the kind."
-use Prim.Native.Nat.{ℕ, _/_, _%_, _^_}
+use Prim.Native.Nat.{ℕ, _+_, _*_, _/_, _%_, _^_}
 
 -- `size` bits of a word, of which bit `at` is the lowest
 abbrev pub field : ℕ → ℕ → ℕ → ℕ
@@ -11,3 +11,7 @@ kindOf w = field w 28 4
 -- what stands below the kind
 abbrev pub contentOf : ℕ → ℕ
 contentOf w = field w 0 28
+
+-- the word of a kind and a content
+abbrev pub wordOf : ℕ → ℕ → ℕ
+wordOf kind content = kind * 2 ^ 28 + content

@@ -1,0 +1,2 @@
+pub mod Glue
+pub mod Sets

@@ -1,0 +1,3 @@
+pub mod Choose
+pub mod Chosen
+pub mod Mapping

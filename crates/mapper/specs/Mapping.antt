@@ -1,0 +1,79 @@
+-- What the mapper answers and writes: "the job's 1 to 6, 12, then 23".
+use Prim.Native.Nat.{ℕ, _≤_}
+use mathlib.Core.Path.{_≡_}
+use mathlib.Core.List.{List, [], _∷_}
+use lib.ListN.{length, take}
+use Rattle.words.specs.Paper.{Paper, accepted, refused}
+use Rattle.alu.specs.Evaluate.{Width}
+use Rattle.reader.specs.Kinds.{mostSources}
+use Rattle.reader.specs.Job.{jobOf}
+use Rattle.reader.specs.declared.Job.{Job}
+use Rattle.reader.specs.declared.JobRead.{JobRead}
+use Rattle.reader.specs.declared.JobRead.the-variants as read
+use Rattle.table.specs.Table.{sourcesOf, targetsOf, rulesOf}
+use Rattle.glue.specs.Glue.{glue}
+use Rattle.glue.specs.Sets.{usage}
+use Rattle.glue.specs.declared.Prices.{Prices}
+use Rattle.writer.specs.Write.{mappingWords, writtenOf, lentAfter}
+use Rattle.writer.specs.declared.Written.{Written}
+use Rattle.writer.specs.declared.Written.the-variants.{Words, TooFew}
+use Rattle.mapper.specs.Choose.{Choice, Mapped, Unmappable, choose}
+use Rattle.mapper.specs.declared.choose.Chosen.{Chosen}
+use Rattle.mapper.specs.declared.Answer.{Answer}
+use Rattle.mapper.specs.declared.Answer.the-variants.{Mapping, Refused}
+
+-- a job's prices
+abbrev pub pricesOf : Job → Prices
+pricesOf job = record { inverter = job .inverter; gate = job .gate; multiplexer = job .multiplexer }
+
+-- the choice for a job
+abbrev pub choiceOf : List ℕ → Job → Choice
+choiceOf ws job = choose (job .width) (pricesOf job) (targetsOf ws job) (rulesOf ws job) [] (sourcesOf ws job)
+
+-- the mapping that binds by these rules, with its glue count
+abbrev pub chosenWords : Job → List ℕ → List ℕ
+chosenWords job bound = mappingWords (job .width) bound (glue (job .width) (pricesOf job) bound)
+
+-- what the writing of a choice asks of its caller
+pub record Bound (job : Job) (c : Chosen) : Type 0 where
+  pub width : Width (job .width)
+  pub few : job .sources ≤ mostSources
+  pub size : length (c .words) ≡ mostSources
+  pub uses : c .used ≡ usage (take (job .sources) (c .words))
+
+-- ---- the answer
+
+-- "23. Lent words fewer than sources + 2; place: words needed. Last"
+abbrev pub afterWriting : Written → Answer
+afterWriting (Words n) = Mapping n
+afterWriting (TooFew needed) = Refused 23 needed
+
+-- "12. Unmappable; place: lowest function without a usable rule."
+abbrev pub answerTo : Choice → List ℕ → Answer
+answerTo (Mapped bound) lent = afterWriting (writtenOf (length bound) lent)
+answerTo (Unmappable f) lent = Refused 12 f
+
+abbrev pub answerFor : List ℕ → JobRead → List ℕ → Answer
+answerFor ws (read.Accepted job) lent = answerTo (choiceOf ws job) lent
+answerFor ws (read.Refused number place) lent = Refused number place
+
+unfoldable pub answerOf : List ℕ → List ℕ → Answer
+answerOf ws lent = answerFor ws (jobOf ws) lent
+
+-- ---- the lent words afterwards: as they were, unless a mapping is written
+
+abbrev pub lentTo : Job → Choice → List ℕ → List ℕ
+lentTo job (Mapped bound) lent = lentAfter (chosenWords job bound) lent
+lentTo job (Unmappable f) lent = lent
+
+abbrev pub lentFor : List ℕ → JobRead → List ℕ → List ℕ
+lentFor ws (read.Accepted job) lent = lentTo job (choiceOf ws job) lent
+lentFor ws (read.Refused number place) lent = lent
+
+unfoldable pub lentOf : List ℕ → List ℕ → List ℕ
+lentOf ws lent = lentFor ws (jobOf ws) lent
+
+-- the answer in document 01's numbers
+abbrev pub paperOf : Answer → Paper
+paperOf (Mapping n) = accepted (n ∷ [])
+paperOf (Refused number place) = refused number place

@@ -1,0 +1,98 @@
+// The mapper: for each source of a job the rule of document 01's choice, written as a mapping into lent words.
+mod choose;
+
+use choose::Chosen;
+use choose::Terms;
+use glue::Prices;
+use reader::Job;
+use reader::JobRead;
+use writer::Written;
+ghost use mathlib.Core.Path.{_≡_};
+ghost use Rattle.reader.specs.Job as J;
+ghost use Rattle.reader.specs.declared.JobRead as R;
+ghost use lib.ListN.{take};
+ghost use Rattle.writer.specs.Write as W;
+ghost use Rattle.mapper.specs.Chosen as K;
+ghost use Rattle.mapper.specs.Mapping as M;
+
+// The number of words written, or the refusal: the job's 1 to 6, 12, then 23.
+pub enum Answer {
+    Mapping(usize),
+    Refused { number: u32, place: usize },
+}
+
+pub fn prices_of(job: Job) -> Prices
+    ensures { λ r. ⌜ r ≡ M.pricesOf job ⌝ }
+{
+    Prices {
+        inverter: job.inverter,
+        gate: job.gate,
+        multiplexer: job.multiplexer,
+    }
+}
+
+// The choice for a job that was read. Its rules are a part of its words that begins after its tables.
+fn choice_of(job: Job, words: &[u32]) -> Chosen
+    requires { ⌜ J.jobOf (now words) ≡ JobRead.Accepted job ⌝ }
+    ensures { λ r. ⌜ K.Kept r (job .sources) (M.choiceOf (now (words .entry)) job) ⌝ }
+{
+    let width = job.width;
+    let prices = prices_of(job);
+    let start = reader::SOURCES_START;
+    let targets = reader::targets_start(job);
+    let rules = reader::rules_start(job);
+    choose::choose(
+        Terms { width, prices },
+        &words[start..targets],
+        &words[targets..rules],
+        &words[rules..],
+    )
+}
+
+// Writes the mapping that binds by the chosen rules.
+fn write_chosen(job: Job, chosen: Chosen, lent: &mut [u32]) -> Written
+    requires { ⌜ M.Bound job chosen ⌝ }
+    ensures answer { λ r. ⌜ r ≡ W.writtenOf (job .sources) (now (lent .entry)) ⌝ }
+    ensures written { λ r. ⌜ now (lent .exit) ≡ W.lentAfter (M.chosenWords job (take (job .sources) (chosen .words))) (now (lent .entry)) ⌝ }
+{
+    let width = job.width;
+    let count = glue::price(chosen.used, width, prices_of(job));
+    let sources = job.sources as usize;
+    let bound = chosen.words;
+    writer::write_mapping(width, &bound[..sources], count, lent)
+}
+
+// The mapping of a job that was read: 12 comes before 23.
+fn map_read(job: Job, words: &[u32], lent: &mut [u32]) -> Answer
+    requires { ⌜ J.jobOf (now words) ≡ JobRead.Accepted job ⌝ }
+    ensures answer { λ r. ⌜ r ≡ M.answerTo (M.choiceOf (now (words .entry)) job) (now (lent .entry)) ⌝ }
+    ensures written { λ r. ⌜ now (lent .exit) ≡ M.lentTo job (M.choiceOf (now (words .entry)) job) (now (lent .entry)) ⌝ }
+{
+    let chosen = choice_of(job, words);
+    if !chosen.mapped {
+        return Answer::Refused {
+            number: 12,
+            place: chosen.unmappable as usize,
+        };
+    }
+    let written = write_chosen(job, chosen, lent);
+    match written {
+        Written::Words(n) => Answer::Mapping(n),
+        Written::TooFew(needed) => Answer::Refused {
+            number: 23,
+            place: needed,
+        },
+    }
+}
+
+// Maps a job into lent words. Refused, it leaves every lent word as it was.
+pub fn map(words: &[u32], lent: &mut [u32]) -> Answer
+    ensures answer { λ r. ⌜ r ≡ M.answerOf (now (words .entry)) (now (lent .entry)) ⌝ }
+    ensures written { λ r. ⌜ now (lent .exit) ≡ M.lentOf (now (words .entry)) (now (lent .entry)) ⌝ }
+{
+    let read = reader::read_job(words);
+    match read {
+        JobRead::Refused { number, place } => Answer::Refused { number, place },
+        JobRead::Accepted(job) => map_read(job, words, lent),
+    }
+}

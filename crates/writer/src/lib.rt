@@ -1,0 +1,47 @@
+// The writer of mappings: header, bindings and glue count into lent words, or refusal 23 and no word touched.
+ghost use mathlib.Core.Path.{_≡_};
+ghost use Prim.Native.Nat.{_≤_};
+ghost use lib.ListN.{length};
+ghost use Rattle.reader.specs.Kinds.{mostSources};
+ghost use Rattle.writer.specs.Write as W;
+
+// How many words were written, or refusal 23 with the words needed.
+pub enum Written {
+    Words(usize),
+    TooFew(usize),
+}
+
+// The words that a mapping of so many bindings takes.
+pub fn words_needed(sources: usize) -> usize
+    requires { ⌜ sources ≤ mostSources ⌝ }
+    ensures { λ r. ⌜ r ≡ W.wordsNeeded sources ⌝ }
+{
+    sources + 2
+}
+
+// A rule's recipe as a binding.
+pub fn binding_word(word: u32) -> u32
+    ensures { λ r. ⌜ r ≡ W.bindingWord word ⌝ }
+{
+    words::word_of(reader::BINDING, words::content_of(word))
+}
+
+// Writes the mapping that binds each of these recipes.
+pub fn write_mapping(width: u32, bound: &[u32], glue: u32, lent: &mut [u32]) -> Written
+    requires { ⌜ W.Writable width glue (now bound) ⌝ }
+    ensures answer { λ r. ⌜ r ≡ W.writtenOf (length (now (bound .entry))) (now (lent .entry)) ⌝ }
+    ensures written { λ r. ⌜ now (lent .exit) ≡ W.lentAfter (W.mappingWords width (now (bound .entry)) glue) (now (lent .entry)) ⌝ }
+{
+    let needed = words_needed(bound.len());
+    if lent.len() < needed {
+        return Written::TooFew(needed);
+    }
+    lent[0] = words::word_of(reader::HEADER, width);
+    let mut i = 0;
+    while i < bound.len() {
+        lent[i + 1] = binding_word(bound[i]);
+        i += 1;
+    }
+    lent[i + 1] = words::word_of(reader::GLUE, glue);
+    Written::Words(needed)
+}
