@@ -1,0 +1,3 @@
+pub mod Content
+pub mod Choice
+pub mod Written
