@@ -27,10 +27,11 @@ use Rattle.reader.proofs.Accepting.{accepts, laid-well-formed}
 use Rattle.table.specs.Table.{entryPlace, sourcesOf, targetsOf, rulesOf, bindingsOf}
 use Rattle.glue.specs.Glue.{glue, InRange}
 use Rattle.glue.proofs.Bounds.{glue-fits}
+use Rattle.pricer.specs.Pricing.{pricesOf}
 use Rattle.writer.specs.Write.{bindingWord, bindingWords, mappingWords}
 use Rattle.writer.proofs.Writing.{bindings-length, bindings-at}
 use Rattle.mapper.specs.Choose.{serves, withRule, Mapped}
-use Rattle.mapper.specs.Mapping.{pricesOf, choiceOf, chosenWords}
+use Rattle.mapper.specs.Mapping.{choiceOf, chosenWords}
 use Rattle.mapper.proofs.Answering.{sources-length}
 use Rattle.demands.proofs.Content.{binding-kind, source-same, fault-same}
 use Rattle.demands.proofs.Choice.{Least, Chosen, mapped-chosen}

@@ -21,12 +21,13 @@ use Rattle.glue.specs.Glue.{glue}
 use Rattle.glue.specs.Sets.{usage, priceOf}
 use Rattle.glue.specs.declared.Prices.{Prices}
 use Rattle.glue.proofs.Joining.{price-is-glue}
+use Rattle.pricer.specs.Pricing.{pricesOf}
 use Rattle.writer.specs.Write.{mappingWords, writtenOf, lentAfter, Writable}
 use Rattle.writer.specs.declared.Written.{Written}
 use Rattle.writer.specs.declared.Written.the-variants.{Words, TooFew}
 use Rattle.mapper.specs.Choose.{Choice, Mapped, Unmappable, choose}
 use Rattle.mapper.specs.Chosen.{keptAs, Kept}
-use Rattle.mapper.specs.Mapping.{pricesOf, choiceOf, chosenWords, Bound, answerTo, answerFor, answerOf, lentTo, lentFor, lentOf}
+use Rattle.mapper.specs.Mapping.{choiceOf, chosenWords, Bound, answerTo, answerFor, answerOf, lentTo, lentFor, lentOf}
 use Rattle.mapper.specs.declared.choose.Chosen.{Chosen}
 use Rattle.mapper.specs.declared.Answer.{Answer}
 use Rattle.mapper.specs.declared.Answer.the-variants.{Mapping, Refused}

@@ -11,9 +11,8 @@ use Rattle.reader.specs.declared.Job.{Job}
 use Rattle.reader.specs.declared.JobRead.{JobRead}
 use Rattle.reader.specs.declared.JobRead.the-variants as read
 use Rattle.table.specs.Table.{sourcesOf, targetsOf, rulesOf}
-use Rattle.glue.specs.Glue.{glue}
 use Rattle.glue.specs.Sets.{usage}
-use Rattle.glue.specs.declared.Prices.{Prices}
+use Rattle.pricer.specs.Pricing.{pricesOf, glueOf}
 use Rattle.writer.specs.Write.{mappingWords, writtenOf, lentAfter}
 use Rattle.writer.specs.declared.Written.{Written}
 use Rattle.writer.specs.declared.Written.the-variants.{Words, TooFew}
@@ -22,17 +21,13 @@ use Rattle.mapper.specs.declared.choose.Chosen.{Chosen}
 use Rattle.mapper.specs.declared.Answer.{Answer}
 use Rattle.mapper.specs.declared.Answer.the-variants.{Mapping, Refused}
 
--- a job's prices
-abbrev pub pricesOf : Job → Prices
-pricesOf job = record { inverter = job .inverter; gate = job .gate; multiplexer = job .multiplexer }
-
 -- the choice for a job
 abbrev pub choiceOf : List ℕ → Job → Choice
 choiceOf ws job = choose (job .width) (pricesOf job) (targetsOf ws job) (rulesOf ws job) [] (sourcesOf ws job)
 
 -- the mapping that binds by these rules, with its glue count
 abbrev pub chosenWords : Job → List ℕ → List ℕ
-chosenWords job bound = mappingWords (job .width) bound (glue (job .width) (pricesOf job) bound)
+chosenWords job bound = mappingWords (job .width) bound (glueOf job bound)
 
 -- what the writing of a choice asks of its caller
 pub record Bound (job : Job) (c : Chosen) : Type 0 where

@@ -3,7 +3,6 @@ mod choose;
 
 use choose::Chosen;
 use choose::Terms;
-use glue::Prices;
 use reader::Job;
 use reader::JobRead;
 use writer::Written;
@@ -21,23 +20,13 @@ pub enum Answer {
     Refused { number: u32, place: usize },
 }
 
-pub fn prices_of(job: Job) -> Prices
-    ensures { λ r. ⌜ r ≡ M.pricesOf job ⌝ }
-{
-    Prices {
-        inverter: job.inverter,
-        gate: job.gate,
-        multiplexer: job.multiplexer,
-    }
-}
-
 // The choice for a job that was read. Its rules are a part of its words that begins after its tables.
 fn choice_of(job: Job, words: &[u32]) -> Chosen
     requires { ⌜ J.jobOf (now words) ≡ JobRead.Accepted job ⌝ }
     ensures { λ r. ⌜ K.Kept r (job .sources) (M.choiceOf (now (words .entry)) job) ⌝ }
 {
     let width = job.width;
-    let prices = prices_of(job);
+    let prices = pricer::prices_of(job);
     let start = reader::SOURCES_START;
     let targets = reader::targets_start(job);
     let rules = reader::rules_start(job);
@@ -56,7 +45,7 @@ fn write_chosen(job: Job, chosen: Chosen, lent: &mut [u32]) -> Written
     ensures written { λ r. ⌜ now (lent .exit) ≡ W.lentAfter (M.chosenWords job (take (job .sources) (chosen .words))) (now (lent .entry)) ⌝ }
 {
     let width = job.width;
-    let count = glue::price(chosen.used, width, prices_of(job));
+    let count = glue::price(chosen.used, width, pricer::prices_of(job));
     let sources = job.sources as usize;
     let bound = chosen.words;
     writer::write_mapping(width, &bound[..sources], count, lent)

@@ -1,0 +1,5 @@
+pub mod Judging
+pub mod Rulings
+pub mod Firsts
+pub mod ByIndex
+pub mod Accepting
