@@ -91,6 +91,11 @@ usage-more ws w = usage-append ws (w ∷ []) ∙ ap (bitOr (usage ws)) (usage-on
 pub glue-more : (n : ℕ) (p : Prices) (ws : List ℕ) (w : ℕ) → priceOf n p (bitOr (usage ws) (usageOf w)) ≡ glue n p (ws ++ w ∷ [])
 glue-more n p ws w = ap (priceOf n p) (sym (usage-more ws w)) ∙ price-is-glue n p (ws ++ w ∷ [])
 
+-- the same of what the code has in hand: a set, one binding's set, and their price
+pub glue-with : (n : ℕ) (p : Prices) (ws : List ℕ) (w set one r : ℕ) → set ≡ usage ws → one ≡ usageOf w
+    → r ≡ priceOf n p (bitOr set one) → r ≡ glue n p (ws ++ w ∷ [])
+glue-with n p ws w set one r es eo er = er ∙ (λ i. priceOf n p (bitOr (es i) (eo i))) ∙ glue-more n p ws w
+
 -- the order does not matter
 pub usage-swap : (xs ys : List ℕ) → usage (xs ++ ys) ≡ usage (ys ++ xs)
 usage-swap xs ys = usage-append xs ys ∙ or-comm (usage xs) (usage ys) ∙ sym (usage-append ys xs)

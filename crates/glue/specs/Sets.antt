@@ -1,5 +1,5 @@
 -- How the code keeps what is in use: as one number whose bits are a set. Nobody has to believe this: Glue.antt says what the count
--- is, and the laws of proofs/Usage.antt that the price of this set is that count.
+-- is, and proofs/Joining.antt shows that the price of this set is that count.
 use Prim.Native.Nat.{ℕ, zero, suc, _+_, _*_, _^_}
 use mathlib.Core.List.{List, [], _∷_}
 use lib.Bits.{bitOr}

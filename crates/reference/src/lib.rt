@@ -5,11 +5,19 @@ mod arithmetic;
 mod comparison;
 mod logic;
 mod places;
+mod recipe;
+mod refusal;
 
 use arithmetic::arithmetic;
 use comparison::comparison;
 use logic::logic;
 use places::fits;
+pub use recipe::Fields;
+pub use recipe::fields_of;
+pub use recipe::first_difference;
+pub use recipe::recipe_shows;
+pub use refusal::Refusal;
+pub use refusal::refusal_of;
 ghost use Prim.Native.Nat.{_≤_};
 
 // What a function shows, as numbers.

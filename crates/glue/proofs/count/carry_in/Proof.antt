@@ -31,7 +31,10 @@ add-result c = search needs
 
 returns : tie.Need-returns
 unfolding carryIn
-returns c = let a = c .before .before .before .before .before .before .args in bounded 1020 (cc) (carry-in-most (a .prices) (omega arith) (used (a .parts)))
+returns c =
+    let a = c .before .before .before .before .before .before .args in
+    bounded 1020 (cc)
+    (carry-in-most (a .prices) (omega arith) (used (a .parts)))
 
 pub carry-in-spec : {M : Type 1} → statement M
 carry-in-spec =

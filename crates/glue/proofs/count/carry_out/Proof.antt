@@ -31,7 +31,10 @@ add-result c = search needs
 
 returns : tie.Need-returns
 unfolding carryOut
-returns c = let a = c .before .before .before .before .before .before .args in bounded 510 (cc) (carry-out-most (a .prices) (omega arith) (used (a .parts)))
+returns c =
+    let a = c .before .before .before .before .before .before .args in
+    bounded 510 (cc)
+    (carry-out-most (a .prices) (omega arith) (used (a .parts)))
 
 pub carry-out-spec : {M : Type 1} → statement M
 carry-out-spec =

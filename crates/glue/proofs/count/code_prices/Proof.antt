@@ -43,7 +43,8 @@ loop-again : tie.Need-loop-again Inv-loop μ-loop
 loop-again c = (search needs, search next-code)
 
 returns : tie.Need-returns Inv-loop μ-loop
-returns c = let g : InRange (c .before .before .args .prices) = omega arith in (search all-codes, search codes-most)
+returns c =
+    let g : InRange (c .before .before .args .prices) = omega arith in (search all-codes, search codes-most)
 
 pub code-prices-spec : {M : Type 1} → statement M
 code-prices-spec =

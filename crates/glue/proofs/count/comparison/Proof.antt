@@ -25,7 +25,11 @@ add-result c = search needs
 
 returns : tie.Need-returns
 unfolding comparison
-returns c = let s = c .before .before .before .before in let a = s .args in bounded 153510 (cc) (comparison-most (a .prices) (omega arith) (a .n) (s .pre .most) (used (a .parts)))
+returns c =
+    let s = c .before .before .before .before in
+    let a = s .args in
+    bounded 153510 (cc)
+    (comparison-most (a .prices) (omega arith) (a .n) (s .pre .most) (used (a .parts)))
 
 pub comparison-spec : {M : Type 1} → statement M
 comparison-spec =

@@ -34,7 +34,11 @@ add-result c = search needs
 
 returns : tie.Need-returns
 unfolding complements
-returns c = let s = c .before .before .before .before .before .before .before in let a = s .args in bounded 32640 (cc) (complements-most (a .prices) (omega arith) (a .n) (s .pre .most) (used (a .parts)))
+returns c =
+    let s = c .before .before .before .before .before .before .before in
+    let a = s .args in
+    bounded 32640 (cc)
+    (complements-most (a .prices) (omega arith) (a .n) (s .pre .most) (used (a .parts)))
 
 pub complements-spec : {M : Type 1} → statement M
 complements-spec =

@@ -40,7 +40,11 @@ add-result c = search needs
 
 returns : tie.Need-returns
 unfolding mainOutput
-returns c = let s = c .before .before .before .before .before .before .before .before in let a = s .args in bounded 48960 (cc (num-if (c .before .before .before .before .before .before .has .result))) (main-most (a .prices) (omega arith) (a .n) (s .pre .most) (used (a .parts)))
+returns c =
+    let s = c .before .before .before .before .before .before .before .before in
+    let a = s .args in
+    bounded 48960 (cc (num-if (c .before .before .before .before .before .before .has .result)))
+    (main-most (a .prices) (omega arith) (a .n) (s .pre .most) (used (a .parts)))
 
 pub main-output-spec : {M : Type 1} → statement M
 main-output-spec =

@@ -31,7 +31,11 @@ add-result c = search needs
 
 returns : tie.Need-returns
 unfolding wirings
-returns c = let s = c .before .before .before .before .before .before in let a = s .args in bounded 163200 (cc) (wirings-most (a .prices) (omega arith) (a .n) (s .pre .most) (used (a .parts)))
+returns c =
+    let s = c .before .before .before .before .before .before in
+    let a = s .args in
+    bounded 163200 (cc)
+    (wirings-most (a .prices) (omega arith) (a .n) (s .pre .most) (used (a .parts)))
 
 pub wirings-spec : {M : Type 1} → statement M
 wirings-spec =

@@ -1,0 +1,56 @@
+-- `readings::damage::remove` meets its contract.
+use mathlib.Core.Path.{_≡_}
+use lib.ListN.{length}
+use borrow.Author.Needs.{needs}
+use Prim.Native.Nat.{_≤_, _-_}
+use Rattle.readings.proofs.damage.remove.Statement.{statement}
+use Rattle.readings.proofs.damage.remove.Tie as tie
+
+abbrev Inv-loop : tie.InvT-loop
+Inv-loop words₀ place n i₀ words i = (place ≤ i) × (length words ≡ length words₀)
+
+abbrev μ-loop : tie.MeasureT-loop
+μ-loop words₀ place n i₀ words i = n - i
+
+loop-holds : tie.Need-loop-holds Inv-loop μ-loop
+loop-holds c = search needs
+
+wrapping-add-usize-requires : tie.Need-wrapping-add-usize-requires Inv-loop μ-loop
+wrapping-add-usize-requires c κs = search needs
+
+at-requires : tie.Need-at-requires Inv-loop μ-loop
+at-requires c κs = search needs
+
+put-requires : tie.Need-put-requires Inv-loop μ-loop
+put-requires c κs = search needs
+
+add-i : tie.Need-add-i Inv-loop μ-loop
+add-i c = search needs
+
+loop-less : tie.Need-loop-less Inv-loop μ-loop
+loop-less c = search needs
+
+loop-again : tie.Need-loop-again Inv-loop μ-loop
+loop-again c = search needs
+
+same-length : tie.Need-same-length Inv-loop μ-loop
+same-length c = search needs
+
+returns : tie.Need-returns Inv-loop μ-loop
+returns c = search needs
+
+pub remove-spec : {M : Type 1} → statement M
+remove-spec =
+    tie.close
+    (tie.spec
+    Inv-loop
+    μ-loop
+    loop-holds
+    wrapping-add-usize-requires
+    at-requires
+    put-requires
+    add-i
+    loop-less
+    loop-again
+    same-length
+    returns)

@@ -1,0 +1,56 @@
+-- `readings::damage::repeat` meets its contract.
+use mathlib.Core.Path.{_≡_}
+use lib.ListN.{length}
+use borrow.Author.Needs.{needs}
+use Prim.Native.Nat.{_-_}
+use Rattle.readings.proofs.damage.repeat.Statement.{statement}
+use Rattle.readings.proofs.damage.repeat.Tie as tie
+
+abbrev Inv-loop : tie.InvT-loop
+Inv-loop words₀ place n i₀ words i = (length words ≡ length words₀)
+
+abbrev μ-loop : tie.MeasureT-loop
+μ-loop words₀ place n i₀ words i = i - place
+
+loop-holds : tie.Need-loop-holds Inv-loop μ-loop
+loop-holds c = search needs
+
+sub-at : tie.Need-sub-at Inv-loop μ-loop
+sub-at c = search needs
+
+at-requires : tie.Need-at-requires Inv-loop μ-loop
+at-requires c κs = search needs
+
+put-requires : tie.Need-put-requires Inv-loop μ-loop
+put-requires c κs = search needs
+
+sub-i : tie.Need-sub-i Inv-loop μ-loop
+sub-i c = search needs
+
+loop-less : tie.Need-loop-less Inv-loop μ-loop
+loop-less c = search needs
+
+loop-again : tie.Need-loop-again Inv-loop μ-loop
+loop-again c = search needs
+
+same-length : tie.Need-same-length Inv-loop μ-loop
+same-length c = search needs
+
+returns : tie.Need-returns Inv-loop μ-loop
+returns c = search needs
+
+pub repeat-spec : {M : Type 1} → statement M
+repeat-spec =
+    tie.close
+    (tie.spec
+    Inv-loop
+    μ-loop
+    loop-holds
+    sub-at
+    at-requires
+    put-requires
+    sub-i
+    loop-less
+    loop-again
+    same-length
+    returns)

@@ -1,0 +1,72 @@
+-- `readings::files::recipes` meets its contract.
+use lib.ListN.{length}
+use mathlib.Core.Path.{_≡_}
+use borrow.Author.Needs.{needs}
+use Prim.Native.Nat.{_≤_, _-_}
+use Rattle.readings.proofs.files.recipes.Statement.{statement}
+use Rattle.readings.proofs.files.recipes.Tie as tie
+
+abbrev Inv-loop : tie.InvT-loop
+Inv-loop words₀ from kind count i₀ words i = (i ≤ count) × (length words ≡ length words₀)
+
+abbrev μ-loop : tie.MeasureT-loop
+μ-loop words₀ from kind count i₀ words i = count - i
+
+loop-holds : tie.Need-loop-holds Inv-loop μ-loop
+loop-holds c = search needs
+
+add-function : tie.Need-add-function Inv-loop μ-loop
+add-function c = search needs
+
+add-function-2 : tie.Need-add-function-2 Inv-loop μ-loop
+add-function-2 c = search needs
+
+wrapping-add-usize-requires : tie.Need-wrapping-add-usize-requires Inv-loop μ-loop
+wrapping-add-usize-requires c κs = search needs
+
+narrow-requires : tie.Need-narrow-requires Inv-loop μ-loop
+narrow-requires c κs = search needs
+
+plain-recipe-requires : tie.Need-plain-recipe-requires Inv-loop μ-loop
+plain-recipe-requires c κs = search needs
+
+put-requires : tie.Need-put-requires Inv-loop μ-loop
+put-requires c κs = search needs
+
+add-i : tie.Need-add-i Inv-loop μ-loop
+add-i c = search needs
+
+loop-less : tie.Need-loop-less Inv-loop μ-loop
+loop-less c = search needs
+
+loop-again : tie.Need-loop-again Inv-loop μ-loop
+loop-again c = search needs
+
+wrapping-add-usize-requires-2 : tie.Need-wrapping-add-usize-requires-2 Inv-loop μ-loop
+wrapping-add-usize-requires-2 c κs = search needs
+
+same-length : tie.Need-same-length Inv-loop μ-loop
+same-length c = search needs
+
+returns : tie.Need-returns Inv-loop μ-loop
+returns c = search needs
+
+pub recipes-spec : {M : Type 1} → statement M
+recipes-spec =
+    tie.close
+    (tie.spec
+    Inv-loop
+    μ-loop
+    loop-holds
+    add-function
+    add-function-2
+    wrapping-add-usize-requires
+    narrow-requires
+    plain-recipe-requires
+    put-requires
+    add-i
+    loop-less
+    loop-again
+    wrapping-add-usize-requires-2
+    same-length
+    returns)

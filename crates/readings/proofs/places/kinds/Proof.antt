@@ -1,0 +1,50 @@
+-- `readings::places::kinds` meets its contract.
+use borrow.Author.Needs.{needs}
+use Prim.Native.Nat.{_≤_, _-_}
+use Rattle.readings.proofs.places.kinds.Statement.{statement}
+use Rattle.readings.proofs.places.kinds.Tie as tie
+
+abbrev Inv-loop : tie.InvT-loop
+Inv-loop form tally₀ p₀ tally p = p ≤ 17
+
+abbrev μ-loop : tie.MeasureT-loop
+μ-loop form tally₀ p₀ tally p = 17 - p
+
+empty-requires : tie.Need-empty-requires Inv-loop μ-loop
+empty-requires c κs = search needs
+
+loop-holds : tie.Need-loop-holds Inv-loop μ-loop
+loop-holds c = search needs
+
+plain-word-requires : tie.Need-plain-word-requires Inv-loop μ-loop
+plain-word-requires c κs = search needs
+
+spoiled-requires : tie.Need-spoiled-requires Inv-loop μ-loop
+spoiled-requires c κs = search needs
+
+add-p : tie.Need-add-p Inv-loop μ-loop
+add-p c = search needs
+
+loop-less : tie.Need-loop-less Inv-loop μ-loop
+loop-less c = search needs
+
+loop-again : tie.Need-loop-again Inv-loop μ-loop
+loop-again c = search needs
+
+returns : tie.Need-returns Inv-loop μ-loop
+returns c = search needs
+
+pub kinds-spec : {M : Type 1} → statement M
+kinds-spec =
+    tie.close
+    (tie.spec
+    Inv-loop
+    μ-loop
+    empty-requires
+    loop-holds
+    plain-word-requires
+    spoiled-requires
+    add-p
+    loop-less
+    loop-again
+    returns)

@@ -1,0 +1,72 @@
+-- `readings::random::random_rules` meets its contract.
+use lib.ListN.{length}
+use mathlib.Core.Path.{_≡_}
+use borrow.Author.Needs.{needs}
+use Prim.Native.Nat.{_≤_, _-_}
+use Rattle.readings.proofs.random.random_rules.Statement.{statement}
+use Rattle.readings.proofs.random.random_rules.Tie as tie
+
+abbrev Inv-loop : tie.InvT-loop
+Inv-loop words₀ from state₀ below count place₀ i₀ words state place i = (i ≤ count) × (length words ≡ length words₀)
+
+abbrev μ-loop : tie.MeasureT-loop
+μ-loop words₀ from state₀ below count place₀ i₀ words state place i = count - i
+
+rules-below-requires : tie.Need-rules-below-requires Inv-loop μ-loop
+rules-below-requires c κs = search needs
+
+draw-requires : tie.Need-draw-requires Inv-loop μ-loop
+draw-requires c κs = search needs
+
+loop-holds : tie.Need-loop-holds Inv-loop μ-loop
+loop-holds c = search needs
+
+draw-requires-2 : tie.Need-draw-requires-2 Inv-loop μ-loop
+draw-requires-2 c κs = search needs
+
+add-function : tie.Need-add-function Inv-loop μ-loop
+add-function c = search needs
+
+random-word-requires : tie.Need-random-word-requires Inv-loop μ-loop
+random-word-requires c κs = search needs
+
+put-requires : tie.Need-put-requires Inv-loop μ-loop
+put-requires c κs = search needs
+
+wrapping-add-usize-requires : tie.Need-wrapping-add-usize-requires Inv-loop μ-loop
+wrapping-add-usize-requires c κs = search needs
+
+add-i : tie.Need-add-i Inv-loop μ-loop
+add-i c = search needs
+
+loop-less : tie.Need-loop-less Inv-loop μ-loop
+loop-less c = search needs
+
+loop-again : tie.Need-loop-again Inv-loop μ-loop
+loop-again c = search needs
+
+same-length : tie.Need-same-length Inv-loop μ-loop
+same-length c = search needs
+
+returns : tie.Need-returns Inv-loop μ-loop
+returns c = search needs
+
+pub random-rules-spec : {M : Type 1} → statement M
+random-rules-spec =
+    tie.close
+    (tie.spec
+    Inv-loop
+    μ-loop
+    rules-below-requires
+    draw-requires
+    loop-holds
+    draw-requires-2
+    add-function
+    random-word-requires
+    put-requires
+    wrapping-add-usize-requires
+    add-i
+    loop-less
+    loop-again
+    same-length
+    returns)

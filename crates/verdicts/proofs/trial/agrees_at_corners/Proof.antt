@@ -1,0 +1,50 @@
+-- `verdicts::trial::agrees_at_corners` meets its contract.
+use borrow.Author.Needs.{needs}
+use Prim.Native.Nat.{_≤_, _-_}
+use Rattle.verdicts.proofs.trial.agrees_at_corners.Statement.{statement}
+use Rattle.verdicts.proofs.trial.agrees_at_corners.Tie as tie
+
+abbrev Inv-loop : tie.InvT-loop
+Inv-loop word n i₀ i = i ≤ 98
+
+abbrev μ-loop : tie.MeasureT-loop
+μ-loop word n i₀ i = 98 - i
+
+loop-holds : tie.Need-loop-holds Inv-loop μ-loop
+loop-holds c = search needs
+
+corners-requires : tie.Need-corners-requires Inv-loop μ-loop
+corners-requires c κs = search needs
+
+agrees-at-requires : tie.Need-agrees-at-requires Inv-loop μ-loop
+agrees-at-requires c κs = search needs
+
+returns : tie.Need-returns Inv-loop μ-loop
+returns c = search needs
+
+add-i : tie.Need-add-i Inv-loop μ-loop
+add-i c = search needs
+
+loop-less : tie.Need-loop-less Inv-loop μ-loop
+loop-less c = search needs
+
+loop-again : tie.Need-loop-again Inv-loop μ-loop
+loop-again c = search needs
+
+returns-2 : tie.Need-returns-2 Inv-loop μ-loop
+returns-2 c = search needs
+
+pub agrees-at-corners-spec : {M : Type 1} → statement M
+agrees-at-corners-spec =
+    tie.close
+    (tie.spec
+    Inv-loop
+    μ-loop
+    loop-holds
+    corners-requires
+    agrees-at-requires
+    returns
+    add-i
+    loop-less
+    loop-again
+    returns-2)
