@@ -27,11 +27,11 @@ use Rattle.pricer.specs.declared.Fit.the-variants.{Fits, Misfit}
 use Rattle.checker.specs.declared.Checked.{Checked}
 use Rattle.checker.specs.declared.Checked.the-variants.{Accepted, JobRefused, MappingRefused, Refused, Wrong}
 
--- the answer in document 01's numbers
+-- the answer in document 01's numbers; "1 to 6 also say which of the two is meant": 0 the job, 1 the mapping
 abbrev pub paperOf : Checked → Paper
 paperOf Accepted = accepted []
-paperOf (JobRefused number place) = refused number place
-paperOf (MappingRefused number place) = refused number place
+paperOf (JobRefused number place) = refusedWith number place (0 ∷ [])
+paperOf (MappingRefused number place) = refusedWith number place (1 ∷ [])
 paperOf (Refused number place) = refused number place
 paperOf (Wrong f port left right carry) = refusedWith 10 f (port ∷ left ∷ right ∷ num carry ∷ [])
 

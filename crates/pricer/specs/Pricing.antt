@@ -2,7 +2,7 @@
 -- nor whether it is complete or right has a part in it.
 use Prim.Native.Nat.{ℕ}
 use mathlib.Core.List.{List, [], _∷_}
-use Rattle.words.specs.Paper.{Paper, accepted, refused}
+use Rattle.words.specs.Paper.{Paper, accepted, refused, refusedWith}
 use Rattle.reader.specs.declared.Job.{Job}
 use Rattle.reader.specs.declared.Mapping.{Mapping}
 use Rattle.table.specs.Table.{sourcesOf, targetsOf, bindingsOf}
@@ -43,9 +43,9 @@ pricedOf jobWords mappingWords (pair.MappingRefused number place) = MappingRefus
 unfoldable pub pricingOf : List ℕ → List ℕ → Priced
 pricingOf jobWords mappingWords = pricedOf jobWords mappingWords (pairOf jobWords mappingWords)
 
--- the answer in document 01's numbers
+-- the answer in document 01's numbers; 1 to 6 also say which of the two is meant: 0 the job, 1 the mapping
 abbrev pub paperOf : Priced → Paper
 paperOf (Count count) = accepted (count ∷ [])
-paperOf (JobRefused number place) = refused number place
-paperOf (MappingRefused number place) = refused number place
+paperOf (JobRefused number place) = refusedWith number place (0 ∷ [])
+paperOf (MappingRefused number place) = refusedWith number place (1 ∷ [])
 paperOf (Refused number place) = refused number place

@@ -1,0 +1,82 @@
+-- `checks::trial::agrees_at_random` meets its contract.
+use Prim.Native.Nat.{_≤_, _-_}
+use borrow.Author.Needs.{needs}
+use Rattle.checks.proofs.trial.agrees_at_random.Statement.{statement}
+use Rattle.checks.proofs.trial.agrees_at_random.Tie as tie
+
+abbrev Inv-loop : tie.InvT-loop
+Inv-loop word n x₀ i₀ x i = i ≤ 60
+
+abbrev μ-loop : tie.MeasureT-loop
+μ-loop word n x₀ i₀ x i = 60 - i
+
+wide-requires : tie.Need-wide-requires Inv-loop μ-loop
+wide-requires c κs = search needs
+
+wide-requires-2 : tie.Need-wide-requires-2 Inv-loop μ-loop
+wide-requires-2 c κs = search needs
+
+next-requires : tie.Need-next-requires Inv-loop μ-loop
+next-requires c κs = search needs
+
+loop-holds : tie.Need-loop-holds Inv-loop μ-loop
+loop-holds c = search needs
+
+ones-requires : tie.Need-ones-requires Inv-loop μ-loop
+ones-requires c κs = search needs
+
+next-requires-2 : tie.Need-next-requires-2 Inv-loop μ-loop
+next-requires-2 c κs = search needs
+
+beside-requires : tie.Need-beside-requires Inv-loop μ-loop
+beside-requires c κs = search needs
+
+cast-agrees : tie.Need-cast-agrees Inv-loop μ-loop
+cast-agrees c = search needs
+
+agrees-requires : tie.Need-agrees-requires Inv-loop μ-loop
+agrees-requires c κs = search needs
+
+returns : tie.Need-returns Inv-loop μ-loop
+returns c = search needs
+
+next-requires-3 : tie.Need-next-requires-3 Inv-loop μ-loop
+next-requires-3 c κs = search needs
+
+next-requires-4 : tie.Need-next-requires-4 Inv-loop μ-loop
+next-requires-4 c κs = search needs
+
+add-i : tie.Need-add-i Inv-loop μ-loop
+add-i c = search needs
+
+loop-less : tie.Need-loop-less Inv-loop μ-loop
+loop-less c = search needs
+
+loop-again : tie.Need-loop-again Inv-loop μ-loop
+loop-again c = search needs
+
+returns-2 : tie.Need-returns-2 Inv-loop μ-loop
+returns-2 c = search needs
+
+pub agrees-at-random-spec : {M : Type 1} → statement M
+agrees-at-random-spec =
+    tie.close
+    (tie.spec
+    Inv-loop
+    μ-loop
+    wide-requires
+    wide-requires-2
+    next-requires
+    loop-holds
+    ones-requires
+    next-requires-2
+    beside-requires
+    cast-agrees
+    agrees-requires
+    returns
+    next-requires-3
+    next-requires-4
+    add-i
+    loop-less
+    loop-again
+    returns-2)
