@@ -235,3 +235,55 @@ module _ (n : ℕ) (p : Prices) (ts rules : List ℕ) where
   chosen-served sources all c k h =
       let l = c .least k h in
       record { place = l .place; within = l .within; is-served = rw (l .is-rule) (l .usable-rule) }
+
+  -- a function is called unmappable only if it is a source without a usable rule, and every source before it has one
+  pub record Unserved (sources : List ℕ) (f : ℕ) : Type 0 where
+    pub place : ℕ
+    pub within : place < length sources
+    pub is-function : entryPlace (getD sources place 0) ≡ f
+    pub unserved : Served n ts f rules → ⊥
+    pub earlier-served : (i : ℕ) → i < place → Served n ts (entryPlace (getD sources i 0)) rules
+
+  mapped-apart : {Q : Type 0} (all : List ℕ) (f : ℕ) → Mapped all ≡ Unmappable f → Q
+  mapped-apart all f e = let z : _≡_ {A = ℕ} 0 1 = cc in absurd (omega arith)
+
+  here-unserved : (s : ℕ) (ss bound : List ℕ) (f : ℕ) → bestOf (withRule n p bound) n ts (entryPlace s) none rules .found ≡ false
+      → Unmappable (entryPlace s) ≡ Unmappable f → Unserved (s ∷ ss) f
+  here-unserved s ss bound f h u =
+      let e : entryPlace s ≡ f = cc in
+      record {
+        place = 0;
+        within = omega arith;
+        is-function = e;
+        unserved = λ v. true≢false (sym (served-found (withRule n p bound) n ts (entryPlace s) rules (rw e v)) ∙ h);
+        earlier-served = λ i l. absurd (omega arith);
+      }
+
+  later-unserved : (s : ℕ) (ss bound : List ℕ) (f : ℕ) → bestOf (withRule n p bound) n ts (entryPlace s) none rules .found ≡ true
+      → Unserved ss f → Unserved (s ∷ ss) f
+  later-unserved s ss bound f h u =
+      let l = best-least (withRule n p bound) n ts (entryPlace s) rules h in
+      record {
+        place = suc (u .place);
+        within = omega (arith, u .within);
+        is-function = u .is-function;
+        unserved = u .unserved;
+        earlier-served =
+            first-or-later (record { place = l .place; within = l .within; is-served = rw (l .is-rule) (l .usable-rule) })
+            (λ i b. u .earlier-served i (omega arith));
+      }
+    where
+      first-or-later : Served n ts (entryPlace s) rules
+          → ((i : ℕ) → suc i < suc (u .place) → Served n ts (entryPlace (getD ss i 0)) rules)
+          → (i : ℕ) → i < suc (u .place) → Served n ts (entryPlace (getD (s ∷ ss) i 0)) rules
+      first-or-later q r zero b = q
+      first-or-later q r (suc i) b = r i b
+
+  pub unmappable-unserved : (sources bound : List ℕ) (f : ℕ) → choose n p ts rules bound sources ≡ Unmappable f → Unserved sources f
+  unfolding choose
+  unmappable-unserved [] bound f e = mapped-apart bound f e
+  unmappable-unserved (s ∷ ss) bound f e =
+      let b = bestOf (withRule n p bound) n ts (entryPlace s) none rules in
+      either (λ x. x ≡ Unmappable f → Unserved (s ∷ ss) f) (b .found)
+      (λ h u. later-unserved s ss bound f h (unmappable-unserved ss (bound ++ b .word ∷ []) f u))
+      (λ h u. here-unserved s ss bound f h u) e

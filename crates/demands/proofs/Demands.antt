@@ -7,11 +7,13 @@ use Prim.Native.Nat.{ℕ, _+_, _≤_, _<_}
 use native.Mathlib.Omega.{arith}
 use lib.ListN.{length, take, drop, getD}
 use lib.Dec.{ltb}
-use borrow.Author.Tests.{le-ltb, ltb-false}
+use borrow.Author.Tests.{le-ltb, ltb-false, ltb-true}
 use Rattle.words.proofs.Choices.{either}
 use Rattle.reader.specs.Job.{jobOf}
 use Rattle.reader.specs.Mapping.{mappingOf}
 use Rattle.reader.specs.declared.Job.{Job}
+use Rattle.binding.specs.Right.{Right}
+use Rattle.reader.specs.declared.Mapping.{Mapping as Read}
 use Rattle.reader.specs.declared.JobRead.{JobRead}
 use Rattle.reader.specs.declared.JobRead.the-variants as job-read
 use Rattle.reader.specs.declared.MappingRead.the-variants as mapping-read
@@ -19,18 +21,18 @@ use Rattle.table.specs.Table.{entryPlace, sourcesOf, targetsOf, rulesOf, bindin
 use Rattle.pricer.specs.Pricing.{pricesOf, glueOf}
 use Rattle.writer.specs.Write.{bindingWords, wordsNeeded, writtenOf, lentAfter}
 use Rattle.writer.specs.declared.Written.the-variants.{Words, TooFew}
-use Rattle.writer.proofs.Writing.{mapping-length, written-words}
+use Rattle.writer.proofs.Writing.{mapping-length, written-words, untouched}
 use Rattle.mapper.specs.Choose.{Choice, Mapped, Unmappable, withRule}
 use Rattle.mapper.specs.Mapping.{choiceOf, chosenWords, afterWriting, answerTo, answerFor, answerOf, lentTo, lentFor, lentOf}
 use Rattle.mapper.specs.declared.Answer.{Answer}
 use Rattle.mapper.specs.declared.Answer.the-variants.{Mapping, Refused}
 use Rattle.mapper.proofs.Answering.{sources-length}
 use Rattle.checker.specs.Check.{Checks}
-use Rattle.checker.specs.Mapped.{RightlyMapped}
+use Rattle.checker.specs.Mapped.{bindingAt, Fitting, Complete, RightlyMapped, NamesWrong}
 use Rattle.checker.specs.declared.Checked.{Checked}
 use Rattle.checker.specs.declared.Checked.the-variants.{Accepted}
-use Rattle.checker.proofs.Accepting.{accepted-exactly}
-use Rattle.demands.proofs.Choice.{Served, Least, Chosen, all-served, chosen-served, mapped-chosen}
+use Rattle.checker.proofs.Accepting.{accepted-exactly, wrong-whatever-the-price}
+use Rattle.demands.proofs.Choice.{Served, Least, Unserved, all-served, chosen-served, mapped-chosen, unmappable-unserved}
 use Rattle.demands.proofs.Written.{one-each, least-at, written, reads-back, same-bindings}
 use Rattle.demands.proofs.Accepted.{chosen-rightly-mapped}
 
@@ -38,6 +40,13 @@ use Rattle.demands.proofs.Accepted.{chosen-rightly-mapped}
 -- every binding equals its source function on every port, for all operands and both carries, at the job's width."
 pub accepts-exactly-the-rightly-mapped : (jw mw : List ℕ) (r : Checked) → Checks jw mw r → (r ≡ Accepted) ↔ RightlyMapped jw mw
 accepts-exactly-the-rightly-mapped jw mw r answer = accepted-exactly jw mw r answer
+
+-- "If well formed, fitting and complete but some binding differs somewhere, it is refused whatever its price, naming the lowest such
+-- function, operands and carry where it differs, and the lowest port differing there."
+pub names-the-lowest-wrong : (jw mw : List ℕ) (r : Checked) → Checks jw mw r → (job : Job) (m : Read) → Fitting jw mw job m
+    → Complete jw mw job m → (k : ℕ) → k < m .bindings → (Right (bindingAt mw k) (job .width) → ⊥) → NamesWrong mw m (job .width) r
+names-the-lowest-wrong jw mw r answer job m fits complete k h wrong =
+    wrong-whatever-the-price jw mw r answer job m fits complete k h wrong
 
 -- ---- the mapper, over a job's words and lent words
 
@@ -112,6 +121,33 @@ module _ (ws lent : List ℕ) where
       by-job : (r : JobRead) → jobOf ws ≡ r → answerFor ws r lent ≡ Mapping n → (m : Mappable ws) × (wordsNeeded (m .job .sources) ≤ length lent)
       by-job (job-read.Accepted job) e u = by-choice job e (choiceOf ws job) refl u
       by-job (job-read.Refused number place) e u = apart number place u
+
+  -- "A function is unmappable only if no usable rule for it is in the job": and of such functions it is the lowest, since sources rise.
+  pub unmappable-only-without-a-rule : (job : Job) (f : ℕ) → choiceOf ws job ≡ Unmappable f
+      → Unserved (job .width) (pricesOf job) (targetsOf ws job) (rulesOf ws job) (sourcesOf ws job) f
+  unmappable-only-without-a-rule job f e =
+      unmappable-unserved (job .width) (pricesOf job) (targetsOf ws job) (rulesOf ws job) (sourcesOf ws job) [] f e
+
+  -- "A refusal .. writes to no lent word."
+  pub refused-writes-nothing : (number place : ℕ) → answerOf ws lent ≡ Refused number place → lentOf ws lent ≡ lent
+  unfolding answerOf lentOf writtenOf lentAfter
+  refused-writes-nothing number place a = by-job (jobOf ws) a
+    where
+      apart : {Q : Type 0} (n : ℕ) → Mapping n ≡ Refused number place → Q
+      apart n e = let z : _≡_ {A = ℕ} 0 1 = cc in absurd (omega arith)
+
+      by-choice : (job : Job) (c : Choice) → answerTo c lent ≡ Refused number place → lentTo job c lent ≡ lent
+      by-choice job (Unmappable f) u = refl
+      by-choice job (Mapped bound) u =
+          let size = mapping-length (job .width) (glueOf job bound) bound in
+          either (λ x. afterWriting x ≡ Refused number place → lentAfter (chosenWords job bound) lent ≡ lent)
+          (ltb (length lent) (wordsNeeded (length bound)))
+          (λ z _. untouched (chosenWords job bound) lent (omega (arith, ltb-true (length lent) (wordsNeeded (length bound)) z)))
+          (λ _ z. apart (wordsNeeded (length bound)) z) u
+
+      by-job : (r : JobRead) → answerFor ws r lent ≡ Refused number place → lentFor ws r lent ≡ lent
+      by-job (job-read.Accepted job) u = by-choice job (choiceOf ws job) u
+      by-job (job-read.Refused n k) u = refl
 
   module _ (m : Maps ws lent) where
     -- "the checker accepts it"

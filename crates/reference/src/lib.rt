@@ -1,5 +1,6 @@
 // A second evaluator of the functions, for tests of the first. It works place by place with gates and takes its tables from Tables 1
-// to 3 of the report as document 01 settles them; it shares no code, no table and no definition with the crate that it tests.
+// to 3 of the report as document 01 settles them; it shares no code, no table and no definition with the crates that it tests.
+// Over it, in the same way, stand what a recipe shows and the refusals of a recipe word.
 // So its contracts say only what safety needs, on purpose: what it shows rests on nothing that is proved elsewhere.
 mod arithmetic;
 mod comparison;

@@ -46,44 +46,6 @@ pub fn fields_of(word: u32) -> Fields {
     }
 }
 
-// One wire of a wiring, over a place's bits x of SI0 and y of SI1.
-fn wire(code: u32, x: bool, y: bool) -> bool {
-    match code {
-        // zeros, ones
-        0 => false,
-        1 => true,
-        // SI0, NOT SI0
-        2 => x,
-        3 => !x,
-        // SI1, NOT SI1
-        4 => y,
-        _ => !y,
-    }
-}
-
-fn wired(code: u32, n: u32, left: u64, right: u64) -> u64
-    requires { ⌜ n ≤ 64 ⌝ }
-{
-    let mut word = 0;
-    let mut place = 0;
-    while place < n {
-        let b = wire(code, bit(left, place), bit(right, place));
-        word = with_bit(word, place, b);
-        place += 1;
-    }
-    word
-}
-
-fn carried(code: u32, carry: bool) -> bool {
-    match code {
-        0 => false,
-        1 => true,
-        // SICIN, NOT SICIN
-        2 => carry,
-        _ => !carry,
-    }
-}
-
 // The vector's bit for a place's bits: bit 3 for 00, bit 2 for 01, bit 1 for 10, bit 0 for 11.
 fn minterm(vector: u32, x: bool, y: bool) -> bool {
     let from = if x { vector } else { vector / 4 };
@@ -91,7 +53,7 @@ fn minterm(vector: u32, x: bool, y: bool) -> bool {
     at % 2 == 1
 }
 
-fn from_scratch(vector: u32, n: u32, left: u64, right: u64) -> u64
+fn at_each_place(vector: u32, n: u32, left: u64, right: u64) -> u64
     requires { ⌜ n ≤ 64 ⌝ }
 {
     let mut word = 0;
@@ -102,6 +64,31 @@ fn from_scratch(vector: u32, n: u32, left: u64, right: u64) -> u64
         place += 1;
     }
     word
+}
+
+// A wiring is the gate that lets through one operand or its complement, or neither.
+fn wire(code: u32) -> u32 {
+    match code {
+        // zeros, ones
+        0 => 0b0000,
+        1 => 0b1111,
+        // SI0, NOT SI0
+        2 => 0b0011,
+        3 => 0b1100,
+        // SI1, NOT SI1
+        4 => 0b0101,
+        _ => 0b1010,
+    }
+}
+
+fn carried(code: u32, carry: bool) -> bool {
+    match code {
+        0 => false,
+        1 => true,
+        // SICIN, NOT SICIN
+        2 => carry,
+        _ => !carry,
+    }
 }
 
 // TO0 as the comparison codes read it: its top bit S, and all its bits joined by OR and by AND.
@@ -160,8 +147,8 @@ fn main_output(code: u32, n: u32, to0: u64) -> u64
     match code {
         0 => 0,
         1 => to0,
-        // NOT TO0, by the wires of NOT SI0
-        _ => wired(3, n, to0, 0),
+        // NOT TO0, by the gate of NOT SI0
+        _ => at_each_place(wire(3), n, to0, 0),
     }
 }
 
@@ -191,7 +178,7 @@ fn fields_show(fields: Fields, n: u32, left: u64, right: u64, carry: bool) -> Sh
 {
     if fields.target == 0 {
         return Shown {
-            o0: from_scratch(fields.code, n, left, right),
+            o0: at_each_place(fields.code, n, left, right),
             ocout: 0,
             ovf: 0,
             o1: 0,
@@ -200,8 +187,8 @@ fn fields_show(fields: Fields, n: u32, left: u64, right: u64, carry: bool) -> Sh
     let target = evaluate(
         fields.target,
         n,
-        wired(fields.left, n, left, right),
-        wired(fields.right, n, left, right),
+        at_each_place(wire(fields.left), n, left, right),
+        at_each_place(wire(fields.right), n, left, right),
         number(carried(fields.carry, carry)),
     );
     outputs(fields, n, target)

@@ -102,10 +102,10 @@ fn say_widths(right: [u64; 9]) {
     }
 }
 
-pub fn report(name: &[u8], all: Recipes) {
+// Ends a line that begins with the recipes' name.
+pub fn report(all: Recipes) {
     let tally = all.tally;
     let right = all.right;
-    say::text(name);
     say::count(b": ", all.recipes);
     say::count(b" recipes at nine widths, ", tally.compared);
     say::count(b" compared, ", tally.differ);

@@ -46,7 +46,7 @@ fn corner(n: u32, k: u32) -> u64 {
 }
 
 // The i-th of 7 left operands, 7 right operands and 2 carries.
-pub fn corners(n: u32, i: u32) -> Operands {
+fn corners(n: u32, i: u32) -> Operands {
     Operands {
         left: corner(n, i % 7),
         right: corner(n, i / 7 % 7),
@@ -66,7 +66,7 @@ fn related(n: u32, left: u64, random: u64) -> u64 {
     }
 }
 
-pub fn random(n: u32, seed: u64) -> Operands {
+fn random(n: u32, seed: u64) -> Operands {
     let left = seed & ones(n);
     let other = next(seed);
     Operands {
@@ -74,4 +74,12 @@ pub fn random(n: u32, seed: u64) -> Operands {
         right: related(n, left, other),
         carry: (other >> 63) as u32,
     }
+}
+
+// Some operands of n bits, in turn: 98 corners, then random ones.
+pub fn sampled(n: u32, i: u32, seed: u64) -> Operands {
+    if i < 98 {
+        return corners(n, i);
+    }
+    random(n, seed)
 }

@@ -12,10 +12,35 @@ use crate::trial::counted;
 use crate::trial::empty;
 use crate::trial::tried;
 
-// A kind of functions: from a number up to, but without, another. From scratch is numbered 0.
+// The numbers of a kind of functions: from one up to, but without, another.
 struct Span {
     first: u32,
     end: u32,
+}
+
+// The kinds, in turn: arithmetic, logic, comparison, and from scratch, whose number is 0.
+fn span_of(kind: u32) -> Span {
+    match kind {
+        0 => Span { first: 1, end: 6 },
+        1 => Span { first: 6, end: 22 },
+        2 => Span { first: 22, end: 28 },
+        _ => Span { first: 0, end: 1 },
+    }
+}
+
+fn say_kind(kind: u32) {
+    match kind {
+        0 => say::text(b"arithmetic"),
+        1 => say::text(b"logic"),
+        2 => say::text(b"comparison"),
+        _ => say::text(b"scratch"),
+    }
+}
+
+fn say_pairing(sources: u32, targets: u32) {
+    say_kind(sources);
+    say::text(b" from ");
+    say_kind(targets);
 }
 
 // Of a thousand recipes, how many are judged at nine widths: of those right at widths 1 and 2, right at 1 only, and the others.
@@ -32,6 +57,29 @@ struct Pairing {
     one: u64,
     two: u64,
     nine: Recipes,
+}
+
+// Logic from logic has nearly all recipes that are right; the pairings of a kind with itself and with scratch hold few others.
+fn share_of(sources: u32, targets: u32) -> Share {
+    if (sources == 1) & (targets == 1) {
+        return Share {
+            right: 120,
+            narrow: 120,
+            wrong: 5,
+        };
+    }
+    if (sources == targets) | (targets == 3) {
+        return Share {
+            right: 1000,
+            narrow: 1000,
+            wrong: 30,
+        };
+    }
+    Share {
+        right: 1000,
+        narrow: 200,
+        wrong: 6,
+    }
 }
 
 fn nothing_yet() -> Pairing {
@@ -120,9 +168,9 @@ fn paired(sources: Span, targets: Span, share: Share) -> Pairing {
     all
 }
 
-fn report(name: &[u8], all: Pairing) {
+// Ends a line that begins with the pairing's name.
+fn report(all: Pairing) {
     let tally = all.tally;
-    say::text(name);
     say::count(b": ", all.recipes);
     say::count(b" recipes at widths 1 and 2, ", tally.compared);
     say::count(b" compared, ", tally.differ);
@@ -132,111 +180,32 @@ fn report(name: &[u8], all: Pairing) {
 }
 
 // One pairing more, of recipes that were judged at nine widths.
-fn with_pairing(all: Recipes, name: &[u8], sources: Span, targets: Span, share: Share) -> Recipes {
-    let these = paired(sources, targets, share);
-    report(name, these);
+fn with_pairing(all: Recipes, sources: u32, targets: u32) -> Recipes {
+    let these = paired(
+        span_of(sources),
+        span_of(targets),
+        share_of(sources, targets),
+    );
+    say_pairing(sources, targets);
+    report(these);
     let nine = these.nine;
     if 0 < nine.recipes {
-        nine::report(name, nine);
+        say_pairing(sources, targets);
+        nine::report(nine);
     }
     nine::together(all, nine)
 }
 
-fn arithmetic() -> Span {
-    Span { first: 1, end: 6 }
-}
-
-fn logic() -> Span {
-    Span { first: 6, end: 22 }
-}
-
-fn comparison() -> Span {
-    Span { first: 22, end: 28 }
-}
-
-fn scratch() -> Span {
-    Span { first: 0, end: 1 }
-}
-
-// For pairings that hold few recipes.
-fn many() -> Share {
-    Share {
-        right: 1000,
-        narrow: 1000,
-        wrong: 30,
+// Three kinds of sources, four of targets.
+fn with_pairings() -> Recipes {
+    let mut all = nine::none();
+    let mut i: u32 = 0;
+    while i < 12 {
+        let next = with_pairing(all, i / 4, i % 4);
+        all = next;
+        i += 1;
     }
-}
-
-// For pairings that hold many, of which few are right.
-fn fewer() -> Share {
-    Share {
-        right: 1000,
-        narrow: 200,
-        wrong: 6,
-    }
-}
-
-// For logic from logic, which has nearly all recipes that are right.
-fn least() -> Share {
-    Share {
-        right: 120,
-        narrow: 120,
-        wrong: 5,
-    }
-}
-
-fn with_arithmetic_sources(all: Recipes) -> Recipes {
-    let sources = arithmetic();
-    let all = with_pairing(
-        all,
-        b"arithmetic from arithmetic",
-        sources,
-        arithmetic(),
-        many(),
-    );
-    let all = with_pairing(all, b"arithmetic from logic", sources, logic(), many());
-    let all = with_pairing(
-        all,
-        b"arithmetic from comparison",
-        sources,
-        comparison(),
-        many(),
-    );
-    with_pairing(all, b"arithmetic from scratch", sources, scratch(), many())
-}
-
-fn with_logic_sources(all: Recipes) -> Recipes {
-    let sources = logic();
-    let all = with_pairing(
-        all,
-        b"logic from arithmetic",
-        sources,
-        arithmetic(),
-        fewer(),
-    );
-    let all = with_pairing(all, b"logic from logic", sources, logic(), least());
-    let all = with_pairing(all, b"logic from comparison", sources, comparison(), many());
-    with_pairing(all, b"logic from scratch", sources, scratch(), many())
-}
-
-fn with_comparison_sources(all: Recipes) -> Recipes {
-    let sources = comparison();
-    let all = with_pairing(
-        all,
-        b"comparison from arithmetic",
-        sources,
-        arithmetic(),
-        fewer(),
-    );
-    let all = with_pairing(all, b"comparison from logic", sources, logic(), fewer());
-    let all = with_pairing(
-        all,
-        b"comparison from comparison",
-        sources,
-        comparison(),
-        many(),
-    );
-    with_pairing(all, b"comparison from scratch", sources, scratch(), many())
+    all
 }
 
 fn stored() -> Recipes {
@@ -251,10 +220,10 @@ fn stored() -> Recipes {
 }
 
 pub fn report_pairings() {
-    let arithmetic = with_arithmetic_sources(nine::none());
-    let logic = with_logic_sources(arithmetic);
-    let pairings = with_comparison_sources(logic);
+    let chosen = with_pairings();
     let kept = stored();
-    nine::report(b"stored recipes", kept);
-    nine::report(b"all", nine::together(pairings, kept));
+    say::text(b"stored recipes");
+    nine::report(kept);
+    say::text(b"all");
+    nine::report(nine::together(chosen, kept));
 }

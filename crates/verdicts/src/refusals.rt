@@ -11,7 +11,7 @@ use equivalence::Judgement;
 use reference::Refusal;
 ghost use Prim.Native.Nat.{_<_};
 
-// The answers compared, and how many of them by what the reference says: 0 for nothing refused, 1 for the width, else the number for the word.
+// The answers compared, and how many there are by what the reference refuses: 0 for nothing, 1 for the width, or the word's number.
 struct Refusals {
     tally: Tally,
     by: [u64; 7],

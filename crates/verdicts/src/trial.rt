@@ -1,13 +1,12 @@
-// One verdict of the judge, tried by the reference. A right one is tried at every left, right and carry at widths 1 to 3, and above at 98
-// corner operands and 102 random ones. A wrong one is tried at its own operands, so it is borne out only if the recipe is wrong.
+// One verdict of the judge, tried by the reference. A right one is tried at every left, right and carry at widths 1 to 3, and above at 200
+// operands, corners and random ones. A wrong one is tried at its own operands, so it is borne out only if the recipe is wrong.
 use crate::numbers::digit;
 use crate::numbers::more;
 use crate::numbers::next;
 use crate::numbers::wide;
 use crate::operands::Operands;
-use crate::operands::corners;
 use crate::operands::numbered;
-use crate::operands::random;
+use crate::operands::sampled;
 use crate::say;
 use equivalence::Judgement;
 use equivalence::Verdict;
@@ -53,22 +52,11 @@ fn agrees_everywhere(word: u32, n: u32) -> bool
     true
 }
 
-fn agrees_at_corners(word: u32, n: u32) -> bool {
-    let mut i = 0;
-    while i < 98 {
-        if !agrees_at(word, n, corners(n, i)) {
-            return false;
-        }
-        i += 1;
-    }
-    true
-}
-
-fn agrees_at_random(word: u32, n: u32) -> bool {
+fn agrees_at_many(word: u32, n: u32) -> bool {
     let mut x = next(wide(word) ^ (wide(n) << 40));
-    let mut i: u32 = 0;
-    while i < 102 {
-        if !agrees_at(word, n, random(n, x)) {
+    let mut i = 0;
+    while i < 200 {
+        if !agrees_at(word, n, sampled(n, i, x)) {
             return false;
         }
         x = next(next(next(x)));
@@ -81,7 +69,7 @@ fn right_holds(word: u32, n: u32) -> bool {
     if n <= 3 {
         return agrees_everywhere(word, n);
     }
-    agrees_at_corners(word, n) & agrees_at_random(word, n)
+    agrees_at_many(word, n)
 }
 
 // Of the word's source function, at operands in range, with the lowest port that differs there.
@@ -146,7 +134,7 @@ pub fn tried(word: u32, n: u32) -> Trial {
 
 fn say_verdict(word: u32, n: u32, verdict: Verdict) {
     match verdict {
-        Verdict::Right => say::text(b"right"),
+        Verdict::Right => say::text(b"right, not borne out"),
         Verdict::Wrong {
             function,
             port,

@@ -1,14 +1,14 @@
--- `verdicts::trial::agrees_at_random` meets its contract.
+-- `verdicts::trial::agrees_at_many` meets its contract.
 use borrow.Author.Needs.{needs}
 use Prim.Native.Nat.{_≤_, _-_}
-use Rattle.verdicts.proofs.trial.agrees_at_random.Statement.{statement}
-use Rattle.verdicts.proofs.trial.agrees_at_random.Tie as tie
+use Rattle.verdicts.proofs.trial.agrees_at_many.Statement.{statement}
+use Rattle.verdicts.proofs.trial.agrees_at_many.Tie as tie
 
 abbrev Inv-loop : tie.InvT-loop
-Inv-loop word n x₀ i₀ x i = i ≤ 102
+Inv-loop word n x₀ i₀ x i = i ≤ 200
 
 abbrev μ-loop : tie.MeasureT-loop
-μ-loop word n x₀ i₀ x i = 102 - i
+μ-loop word n x₀ i₀ x i = 200 - i
 
 wide-requires : tie.Need-wide-requires Inv-loop μ-loop
 wide-requires c κs = search needs
@@ -22,8 +22,8 @@ next-requires c κs = search needs
 loop-holds : tie.Need-loop-holds Inv-loop μ-loop
 loop-holds c = search needs
 
-random-requires : tie.Need-random-requires Inv-loop μ-loop
-random-requires c κs = search needs
+sampled-requires : tie.Need-sampled-requires Inv-loop μ-loop
+sampled-requires c κs = search needs
 
 agrees-at-requires : tie.Need-agrees-at-requires Inv-loop μ-loop
 agrees-at-requires c κs = search needs
@@ -52,8 +52,8 @@ loop-again c = search needs
 returns-2 : tie.Need-returns-2 Inv-loop μ-loop
 returns-2 c = search needs
 
-pub agrees-at-random-spec : {M : Type 1} → statement M
-agrees-at-random-spec =
+pub agrees-at-many-spec : {M : Type 1} → statement M
+agrees-at-many-spec =
     tie.close
     (tie.spec
     Inv-loop
@@ -62,7 +62,7 @@ agrees-at-random-spec =
     wide-requires-2
     next-requires
     loop-holds
-    random-requires
+    sampled-requires
     agrees-at-requires
     returns
     next-requires-2

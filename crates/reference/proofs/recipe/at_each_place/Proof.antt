@@ -1,14 +1,14 @@
--- `reference::recipe::wired` meets its contract.
+-- `reference::recipe::at_each_place` meets its contract.
 use borrow.Author.Needs.{needs}
 use Prim.Native.Nat.{_≤_, _-_}
-use Rattle.reference.proofs.recipe.wired.Statement.{statement}
-use Rattle.reference.proofs.recipe.wired.Tie as tie
+use Rattle.reference.proofs.recipe.at_each_place.Statement.{statement}
+use Rattle.reference.proofs.recipe.at_each_place.Tie as tie
 
 abbrev Inv-loop : tie.InvT-loop
-Inv-loop code n left right word₀ place₀ word place = place ≤ n
+Inv-loop vector n left right word₀ place₀ word place = place ≤ n
 
 abbrev μ-loop : tie.MeasureT-loop
-μ-loop code n left right word₀ place₀ word place = n - place
+μ-loop vector n left right word₀ place₀ word place = n - place
 
 loop-holds : tie.Need-loop-holds Inv-loop μ-loop
 loop-holds c = search needs
@@ -19,8 +19,8 @@ bit-requires c κs = search needs
 bit-requires-2 : tie.Need-bit-requires-2 Inv-loop μ-loop
 bit-requires-2 c κs = search needs
 
-wire-requires : tie.Need-wire-requires Inv-loop μ-loop
-wire-requires c κs = search needs
+minterm-requires : tie.Need-minterm-requires Inv-loop μ-loop
+minterm-requires c κs = search needs
 
 with-bit-requires : tie.Need-with-bit-requires Inv-loop μ-loop
 with-bit-requires c κs = search needs
@@ -37,8 +37,8 @@ loop-again c = search needs
 returns : tie.Need-returns Inv-loop μ-loop
 returns c = search needs
 
-pub wired-spec : {M : Type 1} → statement M
-wired-spec =
+pub at-each-place-spec : {M : Type 1} → statement M
+at-each-place-spec =
     tie.close
     (tie.spec
     Inv-loop
@@ -46,7 +46,7 @@ wired-spec =
     loop-holds
     bit-requires
     bit-requires-2
-    wire-requires
+    minterm-requires
     with-bit-requires
     add-place
     loop-less
