@@ -1,15 +1,13 @@
--- What the mapper writes is what an accepted mapping is.
-use mathlib.Core.Path.{_≡_, refl, sym, ap, _∙_, subst}
-use mathlib.Core.Bool.{Bool, true, false, _&&_}
-use mathlib.Core.List.{List, []}
+-- A mapping written out of usable rules, one for each source of a job, is what an accepted mapping is.
+use mathlib.Core.Path.{_≡_, refl, sym, ap, _∙_}
+use mathlib.Core.Bool.{true}
+use mathlib.Core.List.{List}
 use Prim.Native.Nat.{ℕ, _+_, _<_}
 use native.Mathlib.Omega.{arith}
-use lib.Dec.{eqb}
-use lib.ListN.{length, take, drop, getD}
+use lib.ListN.{length, drop, getD}
 use lib.Seq.{getD-take, getD-drop}
 use Rattle.words.specs.Choice.{if_then_else_}
 use Rattle.words.specs.Field.{contentOf}
-use Rattle.words.proofs.Choices.{and-split}
 use Rattle.recipe.specs.Fields.{sourceOf}
 use Rattle.binding.specs.Binding.{plain, recipeOf}
 use Rattle.binding.specs.Right.{Right, isRight}
@@ -17,7 +15,7 @@ use Rattle.binding.proofs.Tests.{right-test}
 use Rattle.reader.specs.Job.{jobOf}
 use Rattle.reader.specs.declared.Job.{Job}
 use Rattle.reader.specs.declared.JobRead.the-variants as job-read
-use Rattle.table.specs.Table.{entryPlace, lists, hasTarget, sourcesOf, targetsOf, rulesOf, bindingsOf}
+use Rattle.table.specs.Table.{entryPlace, lists, sourcesOf, targetsOf, bindingsOf}
 use Rattle.table.proofs.Entries.{entry-listed}
 use Rattle.pricer.specs.Fitting.{inJob, fitOf}
 use Rattle.pricer.specs.Pricing.{pricesOf, glueOf}
@@ -25,40 +23,28 @@ use Rattle.pricer.specs.declared.Fit.the-variants.{Fits}
 use Rattle.pricer.proofs.Fitted.{fits-exactly}
 use Rattle.writer.specs.Write.{bindingWord, bindingWords}
 use Rattle.writer.proofs.Writing.{bindings-length, bindings-at}
-use Rattle.mapper.specs.Choose.{serves, usable, Mapped}
-use Rattle.mapper.specs.Mapping.{choiceOf, chosenWords}
+use Rattle.mapper.specs.Mapping.{chosenWords}
 use Rattle.mapper.proofs.Answering.{sources-length}
 use Rattle.checker.specs.Mapped.{bindingAt, RightlyMapped}
 use Rattle.demands.proofs.Content.{source-same, has-target-same, right-same, glue-of-bindings}
-use Rattle.demands.proofs.Written.{one-each, least-at, serves-source, written, reads-back, same-bindings}
+use Rattle.demands.proofs.Written.{Bindable, written, reads-back, same-bindings}
 
-module _ (ws : List ℕ) (job : Job) (e : jobOf ws ≡ job-read.Accepted job) (bound : List ℕ) (eb : choiceOf ws job ≡ Mapped bound) where
+module _ (ws : List ℕ) (job : Job) (e : jobOf ws ≡ job-read.Accepted job) (bound : List ℕ) (b : Bindable ws job bound) where
   -- the k-th binding that is written
   binding-is : (k : ℕ) → k < length bound → bindingAt (chosenWords job bound) k ≡ bindingWord (getD bound k 0)
   binding-is k h =
       let l = bindings-length bound in
       sym (getD-drop 1 (chosenWords job bound) k 0)
       ∙ sym (getD-take (length (bindingWords bound)) (drop 1 (chosenWords job bound)) k 0 (omega arith))
-      ∙ ap (λ (x : List ℕ). getD x k 0) (same-bindings ws job e bound eb) ∙ bindings-at bound k h
-
-  -- the rule chosen for it is usable
-  usable-at : (k : ℕ) → k < length bound
-      → (hasTarget (targetsOf ws job) (getD bound k 0) ≡ true) × (isRight (getD bound k 0) (job .width) ≡ true)
-  unfolding serves usable
-  usable-at k h =
-      let w = getD bound k 0 in
-      let s =
-      and-split (eqb (sourceOf w) (entryPlace (getD (sourcesOf ws job) k 0))) (usable (job .width) (targetsOf ws job) w)
-      (least-at ws job e bound eb k h .usable-rule) in
-      and-split (hasTarget (targetsOf ws job) w) (isRight w (job .width)) (s .1)
+      ∙ ap (λ (x : List ℕ). getD x k 0) (same-bindings ws job e bound b) ∙ bindings-at bound k h
 
   source-listed : (k : ℕ) → k < length bound → lists (sourcesOf ws job) (sourceOf (getD bound k 0)) ≡ true
   source-listed k h =
-      let n = one-each ws job e bound eb in
+      let n = b .one-each in
       let l = sources-length ws job e in
       let at : contentOf (getD ws (2 + k) 0) ≡ entryPlace (getD (sourcesOf ws job) k 0) =
       ap contentOf (sym (getD-take (job .sources) (drop 2 ws) k 0 (omega arith) ∙ getD-drop 2 ws k 0)) in
-      rw (serves-source ws job e bound eb k h ∙ at) (entry-listed (sourcesOf ws job) k (omega arith))
+      rw (b .its-source k h ∙ at) (entry-listed (sourcesOf ws job) k (omega arith))
 
   in-job : (k : ℕ) → k < length (bindingWords bound) → inJob (sourcesOf ws job) (targetsOf ws job) (getD (bindingWords bound) k 0) ≡ true
   unfolding inJob
@@ -66,33 +52,32 @@ module _ (ws : List ℕ) (job : Job) (e : jobOf ws ≡ job-read.Accepted job) (b
       let k′ : k < length bound = omega (arith, bindings-length bound) in
       let w = getD bound k 0 in
       rw (bindings-at bound k k′)
-      (rw (source-same w) (rw (source-listed k k′) (has-target-same w (targetsOf ws job) ∙ usable-at k k′ .0)))
+      (rw (source-same w) (rw (source-listed k k′) (has-target-same w (targetsOf ws job) ∙ b .has-target k k′)))
 
-  fits : fitOf job (sourcesOf ws job) (targetsOf ws job) (written ws job e bound eb) (bindingsOf (chosenWords job bound) (written ws job e bound eb)) ≡ Fits
+  fits : fitOf job (sourcesOf ws job) (targetsOf ws job) (written ws job e bound b) (bindingsOf (chosenWords job bound) (written ws job e bound b)) ≡ Fits
   fits =
-      rw (same-bindings ws job e bound eb)
-      (fits-exactly (sourcesOf ws job) (targetsOf ws job) job (written ws job e bound eb) (bindingWords bound) .1 (refl, in-job))
+      rw (same-bindings ws job e bound b)
+      (fits-exactly (sourcesOf ws job) (targetsOf ws job) job (written ws job e bound b) (bindingWords bound) .1 (refl, in-job))
 
   all-right : (k : ℕ) → k < length (bindingWords bound) → Right (bindingAt (chosenWords job bound) k) (job .width)
   all-right k h =
       let k′ : k < length bound = omega (arith, bindings-length bound) in
       let w = bindingAt (chosenWords job bound) k in
       right-test (plain (sourceOf w)) (recipeOf w) (job .width) .0
-      (ap (λ (x : ℕ). isRight x (job .width)) (binding-is k k′) ∙ right-same (getD bound k 0) (job .width) ∙ usable-at k k′ .1)
+      (ap (λ (x : ℕ). isRight x (job .width)) (binding-is k k′) ∙ right-same (getD bound k 0) (job .width) ∙ b .is-right k k′)
 
-  pub chosen-rightly-mapped : RightlyMapped ws (chosenWords job bound)
-  chosen-rightly-mapped =
+  pub rightly-mapped : RightlyMapped ws (chosenWords job bound)
+  rightly-mapped =
       record {
         job = job;
-        mapping = written ws job e bound eb;
-        fitting =
-            record { job-well-formed = e; mapping-well-formed = reads-back ws job e bound eb; fits = fits };
+        mapping = written ws job e bound b;
+        fitting = record { job-well-formed = e; mapping-well-formed = reads-back ws job e bound b; fits = fits };
         complete =
             λ i h.
             let l = bindings-length bound in
-            let k : i < length bound = omega (arith, one-each ws job e bound eb) in
-            (i, (omega arith, ap sourceOf (binding-is i k) ∙ source-same (getD bound i 0) ∙ serves-source ws job e bound eb i k));
+            let k : i < length bound = omega (arith, b .one-each) in
+            (i, (omega arith, ap sourceOf (binding-is i k) ∙ source-same (getD bound i 0) ∙ b .its-source i k));
         all-right = all-right;
         rightly-priced =
-            ap (glueOf job) (same-bindings ws job e bound eb) ∙ glue-of-bindings (job .width) (pricesOf job) bound;
+            ap (glueOf job) (same-bindings ws job e bound b) ∙ glue-of-bindings (job .width) (pricesOf job) bound;
       }

@@ -33,8 +33,9 @@ use Rattle.checker.specs.declared.Checked.{Checked}
 use Rattle.checker.specs.declared.Checked.the-variants.{Accepted}
 use Rattle.checker.proofs.Accepting.{accepted-exactly, wrong-whatever-the-price}
 use Rattle.demands.proofs.Choice.{Served, Least, Unserved, all-served, chosen-served, mapped-chosen, unmappable-unserved}
-use Rattle.demands.proofs.Written.{one-each, least-at, written, reads-back, same-bindings}
-use Rattle.demands.proofs.Accepted.{chosen-rightly-mapped}
+use Rattle.demands.proofs.Written.{Bindable, reads-back, same-bindings}
+use Rattle.demands.proofs.Chosen.{one-each, least-at, chosen-bindable}
+use Rattle.demands.proofs.Accepted.{rightly-mapped}
 
 -- ---- the checker: "A mapping is accepted exactly when job and mapping are well formed, it fits, is complete and rightly priced, and
 -- every binding equals its source function on every port, for all operands and both carries, at the job's width."
@@ -150,22 +151,25 @@ module _ (ws lent : List ℕ) where
       by-job (job-read.Refused n k) u = refl
 
   module _ (m : Maps ws lent) where
+    usable-rules : Bindable ws (m .job) (m .bound)
+    usable-rules = chosen-bindable ws (m .job) (m .well-formed) (m .bound) (m .choice)
+
     -- "the checker accepts it"
     pub accepted-by-the-checker : (r : Checked) → Checks ws (chosenWords (m .job) (m .bound)) r → r ≡ Accepted
     accepted-by-the-checker r answer =
         accepted-exactly ws (chosenWords (m .job) (m .bound)) r answer .1
-        (chosen-rightly-mapped ws (m .job) (m .well-formed) (m .bound) (m .choice))
+        (rightly-mapped ws (m .job) (m .well-formed) (m .bound) usable-rules)
 
     -- "A written mapping reads back to the same bindings and count."
     pub reads-back-the-same : mappingOf (chosenWords (m .job) (m .bound))
         ≡ mapping-read.Accepted
         (record { width = m .job .width; bindings = length (bindingWords (m .bound)); glue = glueOf (m .job) (m .bound) })
-    reads-back-the-same = reads-back ws (m .job) (m .well-formed) (m .bound) (m .choice)
+    reads-back-the-same = reads-back ws (m .job) (m .well-formed) (m .bound) usable-rules
 
     pub reads-back-the-same-bindings : bindingsOf (chosenWords (m .job) (m .bound))
         (record { width = m .job .width; bindings = length (bindingWords (m .bound)); glue = glueOf (m .job) (m .bound) })
         ≡ bindingWords (m .bound)
-    reads-back-the-same-bindings = same-bindings ws (m .job) (m .well-formed) (m .bound) (m .choice)
+    reads-back-the-same-bindings = same-bindings ws (m .job) (m .well-formed) (m .bound) usable-rules
 
     -- each chosen rule is a rule of the job, usable, and no usable rule gives less at its turn, none earlier gives as little
     pub each-choice-least : (k : ℕ) → k < length (m .bound)

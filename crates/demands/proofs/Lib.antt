@@ -1,5 +1,6 @@
 pub mod Content
 pub mod Choice
 pub mod Written
+pub mod Chosen
 pub mod Accepted
 pub mod Demands

@@ -1,4 +1,4 @@
--- What the mapper answers and writes: "the job's 1 to 6, 12, then 23".
+-- What the mapper answers and writes: the refusals 1 to 6 of the job first, then 12, and 23 last.
 use Prim.Native.Nat.{ℕ, _≤_}
 use mathlib.Core.Path.{_≡_}
 use mathlib.Core.List.{List, [], _∷_}

@@ -1,5 +1,5 @@
 -- A word without a fault: what each kind of word then holds. And words without a fault one after another.
-use mathlib.Core.Path.{_≡_, refl, sym, subst, _∙_}
+use mathlib.Core.Path.{_≡_, refl, sym, ap, subst, _∙_}
 use mathlib.Core.Bool.{Bool, true, false, false≢true}
 use mathlib.Core.List.{List}
 use Prim.Native.Nat.{ℕ, zero, suc, _+_, _<_, _≤_, _^_}
@@ -113,6 +113,17 @@ above s w k e h other =
 abbrev pub Last : List ℕ → State → ℕ → Type 0
 Last ws s i = (p : ℕ) → p + 1 ≡ i → s .function ≡ functionIn (getD ws p 0)
 
+pub last-more : (ws : List ℕ) (i p : ℕ) → p + 1 ≡ i + 1 → functionIn (getD ws i 0) ≡ functionIn (getD ws p 0)
+last-more ws i p h = let e : i ≡ p = omega arith in ap (λ (x : ℕ). functionIn (getD ws x 0)) e
+
+-- both files begin with a header
+abbrev pub HeaderFirst : List ℕ → Type 0
+HeaderFirst ws = (kindOf (getD ws 0 0) ≡ HEADER) × Width (contentOf (getD ws 0 0))
+
+pub header-first : (ws : List ℕ) (i : ℕ) → i ≡ 0 → kindOf (getD ws i 0) ≡ HEADER → contentFault (getD ws i 0) ≡ 0 → HeaderFirst ws
+header-first ws i e k z =
+    subst (λ (x : ℕ). (kindOf (getD ws x 0) ≡ HEADER) × Width (contentOf (getD ws x 0))) e (k, header-width (getD ws i 0) z k)
+
 pub risen : (ws : List ℕ) (s : State) (i k start n : ℕ) → Last ws s i → i ≡ start + n → (1 ≤ n → s .kind ≡ k) → (k ≡ RULE → ⊥)
     → kindOf (getD ws i 0) ≡ k → rises s (getD ws i 0) ≡ true
     → (m : ℕ) → m + 1 ≡ n → functionIn (getD ws (start + m) 0) < functionIn (getD ws i 0)
@@ -140,5 +151,5 @@ module _ (file : File) (ws : List ℕ) (P : State → ℕ → Type 0)
       let l : i < length ws = omega arith in
       either (λ r. r ≡ Passed t → P t (length ws)) (eqb (wordFault file s w) 0)
       (λ z. passed n (i + 1) (after s w) t (omega arith) (keeps s i l (fault-free file s w (eqb-true (wordFault file s w) 0 z)) p))
-      (λ _. apart (wordFault file s w) i t)
+      (λ _. apart _ _ t)
       (rw (drop-next ws i l) at e)

@@ -10,7 +10,6 @@ use borrow.Author.Tests.{eqb-true, leb-true, ltb-true, ltb-false}
 use Rattle.words.specs.Field.{field, kindOf, contentOf}
 use Rattle.words.proofs.Fields.{field-lt}
 use Rattle.words.proofs.Choices.{either, and-split}
-use Rattle.alu.specs.Evaluate.{Width}
 use Rattle.reader.specs.Kinds.{HEADER, PRICES, SOURCE, TARGET, RULE, mostSources, mostTargets, mostRules, mostJobWords}
 use Rattle.reader.specs.Sequence.{jobSequence, inSequence}
 use Rattle.reader.specs.Reading.{nothing, noted, after, functionIn, reading}
@@ -23,7 +22,7 @@ use Rattle.reader.specs.declared.Job.{Job}
 use Rattle.reader.specs.declared.JobRead.{JobRead}
 use Rattle.reader.specs.declared.JobRead.the-variants.{Accepted, Refused}
 use Rattle.reader.proofs.Parts.{Each, Rising, Entry, RecipeWord, each-none, each-more, rising-none, rising-more, rising-as}
-use Rattle.reader.proofs.Faultless.{Faultless, Last, header-width, width-whole, prices-fit, source-entry, target-entry, recipe-word, function-of-entry, risen, passed}
+use Rattle.reader.proofs.Faultless.{Faultless, Last, HeaderFirst, header-first, last-more, width-whole, prices-fit, source-entry, target-entry, recipe-word, function-of-entry, risen, passed}
 
 -- ---- the five kinds, in sequence
 
@@ -77,7 +76,7 @@ record Counts (s : State) (i : ℕ) : Type 0 where
 record Held (ws : List ℕ) (s : State) (i : ℕ) : Type 0 where
   counts : Counts s i
   last : Last ws s i
-  header : 1 ≤ s .kind → (kindOf (getD ws 0 0) ≡ HEADER) × Width (contentOf (getD ws 0 0))
+  header : 1 ≤ s .kind → HeaderFirst ws
   prices : 2 ≤ s .kind → (kindOf (getD ws 1 0) ≡ PRICES) × (contentOf (getD ws 1 0) < 2 ^ 24)
   source-words : Each (Entry SOURCE) ws 2 (s .sources)
   sources-rise : Rising functionIn ws 2 (s .sources)
@@ -105,17 +104,12 @@ module _ (ws : List ℕ) where
     abbrev Keeps : ℕ → Type 0
     Keeps k = kindOf (getD ws i 0) ≡ k → Held ws (noted k (functionIn (getD ws i 0)) s) (i + 1)
 
-    last-more : (p : ℕ) → p + 1 ≡ i + 1 → functionIn (getD ws i 0) ≡ functionIn (getD ws p 0)
-    last-more p h = let e : i ≡ p = omega arith in ap (λ (x : ℕ). functionIn (getD ws x 0)) e
-
     header-more : s .kind ≡ 0 → Keeps HEADER
     header-more h e =
-        let z : i ≡ 0 = omega arith in
         record {
           counts = omega arith;
-          last = last-more;
-          header =
-              λ _. subst (λ (x : ℕ). (kindOf (getD ws x 0) ≡ HEADER) × Width (contentOf (getD ws x 0))) z (e, header-width _ (g .content) e);
+          last = last-more ws i;
+          header = λ _. header-first ws i (omega arith) e (g .content);
           prices = λ l. absurd (omega arith);
           source-words = q .source-words;
           sources-rise = q .sources-rise;
@@ -129,7 +123,7 @@ module _ (ws : List ℕ) where
         let z : i ≡ 1 = omega arith in
         record {
           counts = omega arith;
-          last = last-more;
+          last = last-more ws i;
           header = λ _. q .header (omega arith);
           prices =
               λ _. subst (λ (x : ℕ). (kindOf (getD ws x 0) ≡ PRICES) × (contentOf (getD ws x 0) < 2 ^ 24)) z (e, prices-fit _ (g .content) e);
@@ -145,7 +139,7 @@ module _ (ws : List ℕ) where
         let z : i ≡ 2 + s .sources = omega arith in
         record {
           counts = omega arith;
-          last = last-more;
+          last = last-more ws i;
           header = λ _. q .header (omega arith);
           prices = λ _. q .prices (omega arith);
           source-words = each-more ws 2 (s .sources) (Entry SOURCE) i z (q .source-words) (source-entry _ (g .content) e);
@@ -162,7 +156,7 @@ module _ (ws : List ℕ) where
         let z : i ≡ 2 + s .sources + s .targets = omega arith in
         record {
           counts = omega arith;
-          last = last-more;
+          last = last-more ws i;
           header = λ _. q .header (omega arith);
           prices = λ _. q .prices (omega arith);
           source-words = q .source-words;
@@ -179,7 +173,7 @@ module _ (ws : List ℕ) where
         let z : i ≡ 2 + s .sources + s .targets + s .rules = omega arith in
         record {
           counts = omega arith;
-          last = last-more;
+          last = last-more ws i;
           header = λ _. q .header (omega arith);
           prices = λ _. q .prices (omega arith);
           source-words = q .source-words;

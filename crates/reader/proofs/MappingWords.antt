@@ -10,7 +10,6 @@ use borrow.Author.Tests.{eqb-true, ltb-true}
 use Rattle.words.specs.Field.{kindOf, contentOf}
 use Rattle.words.proofs.Choices.{either, and-split}
 use Rattle.words.proofs.Fields.{field-lt}
-use Rattle.alu.specs.Evaluate.{Width}
 use Rattle.recipe.specs.Fields.{sourceOf}
 use Rattle.reader.specs.Kinds.{HEADER, BINDING, GLUE, mostSources, mostMappingWords}
 use Rattle.reader.specs.Sequence.{mappingSequence, inSequence}
@@ -24,7 +23,7 @@ use Rattle.reader.specs.declared.Mapping.{Mapping}
 use Rattle.reader.specs.declared.MappingRead.{MappingRead}
 use Rattle.reader.specs.declared.MappingRead.the-variants.{Accepted, Refused}
 use Rattle.reader.proofs.Parts.{Each, Rising, RecipeWord, word-of-kind, each-none, each-more, rising-none, rising-more, rising-as}
-use Rattle.reader.proofs.Faultless.{Faultless, Last, header-width, width-whole, recipe-word, function-of-binding, risen, passed}
+use Rattle.reader.proofs.Faultless.{Faultless, Last, HeaderFirst, header-first, last-more, width-whole, recipe-word, function-of-binding, risen, passed}
 
 -- ---- the three kinds, in sequence
 
@@ -69,7 +68,7 @@ record Counts (s : State) (i : ℕ) : Type 0 where
 record Held (ws : List ℕ) (s : State) (i : ℕ) : Type 0 where
   counts : Counts s i
   last : Last ws s i
-  header : 1 ≤ s .kind → (kindOf (getD ws 0 0) ≡ HEADER) × Width (contentOf (getD ws 0 0))
+  header : 1 ≤ s .kind → HeaderFirst ws
   binding-words : Each (RecipeWord BINDING) ws 1 (s .bindings)
   bindings-rise : Rising functionIn ws 1 (s .bindings)
   glue : GLUE ≤ s .kind → kindOf (getD ws (1 + s .bindings) 0) ≡ GLUE
@@ -101,17 +100,12 @@ module _ (ws : List ℕ) where
     abbrev Keeps : ℕ → Type 0
     Keeps k = kindOf (getD ws i 0) ≡ k → Held ws (noted k (functionIn (getD ws i 0)) s) (i + 1)
 
-    last-more : (p : ℕ) → p + 1 ≡ i + 1 → functionIn (getD ws i 0) ≡ functionIn (getD ws p 0)
-    last-more p h = let e : i ≡ p = omega arith in ap (λ (x : ℕ). functionIn (getD ws x 0)) e
-
     header-more : s .kind ≡ 0 → Keeps HEADER
     header-more h e =
-        let z : i ≡ 0 = omega arith in
         record {
           counts = omega arith;
-          last = last-more;
-          header =
-              λ _. subst (λ (x : ℕ). (kindOf (getD ws x 0) ≡ HEADER) × Width (contentOf (getD ws x 0))) z (e, header-width _ (g .content) e);
+          last = last-more ws i;
+          header = λ _. header-first ws i (omega arith) e (g .content);
           binding-words = q .binding-words;
           bindings-rise = q .bindings-rise;
           glue = λ l. absurd (omega arith);
@@ -122,7 +116,7 @@ module _ (ws : List ℕ) where
         let o = opened s i (q .counts) o₀ in
         record {
           counts = omega arith;
-          last = last-more;
+          last = last-more ws i;
           header = λ _. q .header (o .begun);
           binding-words =
               each-more ws 1 (s .bindings) (RecipeWord BINDING) i (o .next) (q .binding-words)
@@ -138,7 +132,7 @@ module _ (ws : List ℕ) where
         let o = opened s i (q .counts) o₀ in
         record {
           counts = omega arith;
-          last = last-more;
+          last = last-more ws i;
           header = λ _. q .header (o .begun);
           binding-words = q .binding-words;
           bindings-rise = q .bindings-rise;

@@ -1,4 +1,3 @@
-// .
 // What a reader says of a file, and what the crate `reader` says.
 use reader::JobRead;
 use reader::MappingRead;

@@ -1,5 +1,6 @@
 -- `reader::read_job` meets its contract.
 use borrow.Author.Needs.{needs}
+use native.Mathlib.Omega.{arith}
 use Rattle.reader.proofs.JobAnswers.{accepted, many-words, two-words, ended-early, no-words, stopped}
 use Rattle.reader.proofs.read_job.Statement.{statement}
 use Rattle.reader.proofs.read_job.Tie as tie
@@ -8,7 +9,7 @@ returns : tie.Need-returns
 returns c = search no-words
 
 returns-2 : tie.Need-returns-2
-returns-2 c = search many-words
+returns-2 c = many-words _ (omega arith)
 
 read-words-requires : tie.Need-read-words-requires
 read-words-requires c κs = search needs

@@ -1,0 +1,21 @@
+-- `bench::Bench::price` meets its contract.
+use borrow.Author.Needs.{needs}
+use Rattle.bench.proofs.Bench.price.Statement.{statement}
+use Rattle.bench.proofs.Pricing.{price-counted, price-refused}
+use Rattle.bench.proofs.Soundness.{is-sound}
+use Rattle.bench.proofs.Bench.price.Tie as tie
+
+is-sound-requires : tie.Need-is-sound-requires
+is-sound-requires c κs = search needs
+
+returns : tie.Need-returns
+returns c = search price-refused
+
+glue-on-requires : tie.Need-glue-on-requires
+glue-on-requires c κs = search is-sound
+
+returns-2 : tie.Need-returns-2
+returns-2 c = search price-counted
+
+pub price-spec : {M : Type 1} → statement M
+price-spec = tie.close (tie.spec is-sound-requires returns glue-on-requires returns-2)

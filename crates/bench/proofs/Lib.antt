@@ -1,0 +1,12 @@
+pub mod Shapes
+pub mod Copying
+pub mod Searching
+pub mod Soundness
+pub mod Binds
+pub mod Opening
+pub mod Pricing
+pub mod Finishing
+pub mod JobParts
+pub mod JobAccepting
+pub mod Keeping
+pub mod Finished

@@ -1,0 +1,17 @@
+-- `bench::places::place_usage` meets its contract.
+use borrow.Author.Needs.{needs}
+use Rattle.words.proofs.Choices.{decide}
+use Rattle.bench.proofs.places.place_usage.Statement.{statement}
+use Rattle.bench.proofs.places.place_usage.Tie as tie
+
+returns : tie.Need-returns
+returns c = search decide
+
+usage-of-requires : tie.Need-usage-of-requires
+usage-of-requires c κs = search needs
+
+returns-2 : tie.Need-returns-2
+returns-2 c = search decide
+
+pub place-usage-spec : {M : Type 1} → statement M
+place-usage-spec = tie.close (tie.spec returns usage-of-requires returns-2)
