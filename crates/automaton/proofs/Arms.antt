@@ -1,6 +1,6 @@
 -- One place of a function of a known kind, from what the code asked.
-use mathlib.Core.Path.{_≡_, refl, ap, ap₂, _∙_}
-use mathlib.Core.Bool.{Bool, true, false}
+use mathlib.Core.Path.{_≡_, ap, ap₂, _∙_}
+use mathlib.Core.Bool.{Bool, false}
 use Prim.Native.Nat.{ℕ}
 use Rattle.words.specs.Choice.{if_then_else_}
 use Rattle.alu.specs.Bits.{exor}

@@ -1,6 +1,6 @@
 -- The machine's runs: it finds exactly whether a recipe agrees with a source side at given operands.
 use mathlib.Core.Path.{_≡_, refl, sym, ap, ap₂, _∙_, subst}
-use Prim.Native.Nat.{ℕ, zero, suc, _+_, _-_, _*_, _/_, _%_, _^_, _<_}
+use Prim.Native.Nat.{ℕ, zero, suc, _+_, _-_, _*_, _/_, _^_, _<_}
 use native.Mathlib.Nat.{add-suc, add-zero, zero-add, suc-add, div-div-eq-div-mul, div-one, pow-suc}
 use native.Mathlib.Omega.{arith}
 use mathlib.Core.Logic.{_↔_}
@@ -10,19 +10,18 @@ use lib.Pow.{pow-pos}
 use borrow.Author.Tests.{eq-eqb, ne-eqb, eqb-true, eqb-false, not-true, not-false}
 use Rattle.words.proofs.Choices.{and-split, and-join, beq-true, beq-refl}
 use Rattle.alu.specs.Bits.{num, bit, word}
-use Rattle.alu.specs.Wiring.{wired, carried}
+use Rattle.alu.specs.Wiring.{carried}
 use Rattle.alu.specs.declared.Ports.{Ports}
-use Rattle.alu.specs.declared.Kind.{Kind}
 use Rattle.alu.proofs.Words.{pow2, word-lt, word-ext, word-bits, same, same-word, word-same, top-word, word-not, word-zeros}
 use Rattle.binding.specs.Binding.{outputsShow, sideShows, shows, shownBit, shownWord, comparison}
 use Rattle.binding.specs.Right.{Agrees}
 use Rattle.binding.specs.declared.Side.{Side}
 use Rattle.binding.specs.declared.Recipe.{Recipe}
-use Rattle.automaton.specs.Place.{wire, sideStep, sideBit, sideCarry, sideOverflow, sideOrder}
+use Rattle.automaton.specs.Place.{wire, sideBit, sideCarry, sideOverflow, sideOrder}
 use Rattle.automaton.specs.Machine.{first, next, alike, last, agreesFrom}
 use Rattle.automaton.specs.declared.Ripple.{Ripple}
 use Rattle.automaton.specs.declared.State.{State}
-use Rattle.automaton.proofs.Sides.{wired-word, ripples, portsFrom, ports-word}
+use Rattle.automaton.proofs.Sides.{wired-word, ripples, ports-word}
 
 -- ---- joined bits
 

@@ -3,6 +3,7 @@
 mod place;
 mod side;
 
+use binding::Outputs;
 use binding::Recipe;
 use binding::Side;
 pub use place::same_bit;
@@ -23,6 +24,15 @@ pub struct State {
     pub all: bool,
 }
 
+// What a side does at one place: what ripples on, the bit of O0, and OCOUT, OVF and O1 if it is the top place.
+pub struct Cell {
+    pub ripple: Ripple,
+    pub bit: bool,
+    pub carry: bool,
+    pub overflow: bool,
+    pub order: bool,
+}
+
 // Before the lowest place.
 pub fn first(s: Side, t: Recipe, carry: bool) -> State
     ensures { λ r. ⌜ r ≡ M.first s t carry ⌝ }
@@ -36,62 +46,54 @@ pub fn first(s: Side, t: Recipe, carry: bool) -> State
     }
 }
 
-// After a place with the bits x and y.
-pub fn next(s: Side, t: Recipe, a: State, x: bool, y: bool) -> State
-    ensures { λ r. ⌜ r ≡ M.next s t a x y ⌝ }
+// What a side does at the bits x and y of a place.
+pub fn cell_of(s: Side, a: Ripple, x: bool, y: bool) -> Cell
+    ensures { λ r. ⌜ r ≡ M.cellOf s a x y ⌝ }
 {
-    let target = t.target;
-    let p = a.source;
-    let q = a.target;
-    let o = side::side_bit(target, q, x, y);
+    Cell {
+        ripple: side::side_step(s, a, x, y),
+        bit: side::side_bit(s, a, x, y),
+        carry: side::side_carry(s, a, x, y),
+        overflow: side::side_overflow(s, a, x, y),
+        order: side::side_order(s, a, x, y),
+    }
+}
+
+// After a place, from what the source (p) and the target (q) do there.
+pub fn next(p: Cell, q: Cell, any: bool, all: bool) -> State
+    ensures { λ r. ⌜ r ≡ M.nextBy p q any all ⌝ }
+{
+    let source = p.ripple;
+    let target = q.ripple;
     State {
-        source: side::side_step(s, p, x, y),
-        target: side::side_step(target, q, x, y),
-        any: a.any | o,
-        all: a.all & o,
+        source,
+        target,
+        any: any | q.bit,
+        all: all & q.bit,
     }
 }
 
 // Whether O0 agrees at a place.
-pub fn alike(s: Side, t: Recipe, a: State, x: bool, y: bool) -> bool
-    ensures { λ r. ⌜ r ≡ M.alike s t a x y ⌝ }
+pub fn alike(outputs: Outputs, p: Cell, q: Cell) -> bool
+    ensures { λ r. ⌜ r ≡ M.alikeBy outputs p q ⌝ }
 {
-    let target = t.target;
-    let outputs = t.outputs;
-    let p = a.source;
-    let q = a.target;
-    same_bit(
-        binding::shown_bit(outputs.main, side::side_bit(target, q, x, y)),
-        side::side_bit(s, p, x, y),
-    )
+    same_bit(binding::shown_bit(outputs.main, q.bit), p.bit)
 }
 
 // Whether all ports agree at the top place.
-pub fn last(s: Side, t: Recipe, a: State, x: bool, y: bool) -> bool
-    ensures { λ r. ⌜ r ≡ M.last s t a x y ⌝ }
+pub fn last(outputs: Outputs, p: Cell, q: Cell, any: bool, all: bool) -> bool
+    ensures { λ r. ⌜ r ≡ M.lastBy outputs p q any all ⌝ }
 {
-    let target = t.target;
-    let outputs = t.outputs;
-    let p = a.source;
-    let q = a.target;
-    let o = side::side_bit(target, q, x, y);
-    let v = side::side_overflow(target, q, x, y);
-    let main = alike(s, t, a, x, y);
-    let cout = same_bit(
-        binding::shown_bit(outputs.cout, side::side_carry(target, q, x, y)),
-        side::side_carry(s, p, x, y),
-    );
-    let ovf = same_bit(
-        binding::shown_bit(outputs.ovf, v),
-        side::side_overflow(s, p, x, y),
-    );
+    let main = alike(outputs, p, q);
+    let cout = same_bit(binding::shown_bit(outputs.cout, q.carry), p.carry);
+    let ovf = same_bit(binding::shown_bit(outputs.ovf, q.overflow), p.overflow);
     let code = binding::comparison(
         outputs.code,
-        side::side_order(target, q, x, y),
-        a.any | o,
-        a.all & o,
-        o,
-        v,
+        q.order,
+        any | q.bit,
+        all & q.bit,
+        q.bit,
+        q.overflow,
     );
-    main & (cout & (ovf & same_bit(code, side::side_order(s, p, x, y))))
+    main & (cout & (ovf & same_bit(code, p.order)))
 }

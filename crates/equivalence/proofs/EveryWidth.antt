@@ -1,7 +1,7 @@
 -- A recipe that is right at every width, by one computed test: a list of states that the machine never leaves, at each of which all
 -- ports agree whatever the next bits are.
 use mathlib.Core.Path.{_≡_, refl, sym, ap, ap₂, _∙_}
-use Prim.Native.Nat.{ℕ, zero, suc, _/_, _%_, _<_}
+use Prim.Native.Nat.{ℕ, zero, suc, _/_, _<_}
 use native.Mathlib.Omega.{arith}
 use mathlib.Core.Bool.{Bool, true, false, _&&_, false≢true}
 use mathlib.Core.List.{List, [], _∷_}
@@ -18,7 +18,7 @@ use Rattle.automaton.specs.Machine.{first, next, alike, last, lowBit, agreesFro
 use Rattle.automaton.specs.declared.State.{State}
 use Rattle.automaton.proofs.Runs.{decided}
 use Rattle.equivalence.specs.Search.{indexOf, stateOf}
-use Rattle.equivalence.proofs.Found.{state-index}
+use Rattle.equivalence.proofs.States.{state-index}
 
 abbrev pub mem : ℕ → List ℕ → Bool
 mem i [] = false

@@ -1,5 +1,8 @@
+pub mod States
+pub mod Places
+pub mod Sets
+pub mod Walks
 pub mod Found
-pub mod Entries
 pub mod Verdicting
 pub mod EveryWidth
 pub mod Starred

@@ -1,6 +1,5 @@
 -- From the search's outcome to the verdict.
 use mathlib.Core.Path.{_≡_, refl, sym, ap, ap₂, _∙_, subst}
-use mathlib.Core.Logic.{_↔_}
 use Prim.Native.Nat.{ℕ, _^_, _<_}
 use native.Mathlib.Omega.{arith}
 use mathlib.Core.Bool.{Bool, true, false, not, Bool·beq}
@@ -9,11 +8,11 @@ use lib.Dec.{eqb}
 use borrow.Author.Tests.{eq-eqb, ne-eqb, eqb-true, not-true, not-false}
 use Rattle.words.specs.Choice.{if_then_else_}
 use Rattle.words.specs.Field.{kindOf}
-use Rattle.words.specs.Paper.{Paper, accepted, refused}
+use Rattle.words.specs.Paper.{accepted, refused}
 use Rattle.words.proofs.Choices.{beq-true, beq-refl, false-of}
-use Rattle.alu.specs.Evaluate.{isWidth, Width, Operands}
+use Rattle.alu.specs.Evaluate.{isWidth}
+use Rattle.alu.specs.Asked.{Width, Operands}
 use Rattle.alu.specs.declared.Ports.{Ports}
-use Rattle.alu.proofs.Shown.{has-width}
 use Rattle.recipe.specs.Fields.{sourceOf}
 use Rattle.recipe.specs.Layout.{recipeFault}
 use Rattle.binding.specs.Binding.{plain, sideShows, recipeOf, shows}
@@ -22,12 +21,11 @@ use Rattle.binding.specs.declared.Side.{Side}
 use Rattle.binding.specs.declared.Recipe.{Recipe}
 use Rattle.binding.proofs.Tests.{right-test}
 use Rattle.equivalence.specs.Search.{Found}
-use Rattle.equivalence.specs.Verdicts.{lowestPort, Differs, Says, isRecipeKind, judgeFault, Judged}
+use Rattle.equivalence.specs.Verdicts.{lowestPort, Says, isRecipeKind, judgeFault}
 use Rattle.equivalence.specs.declared.search.Outcome.{Outcome}
 use Rattle.equivalence.specs.declared.search.Outcome.the-variants.{Holds, Fails}
 use Rattle.equivalence.specs.declared.Verdict.{Verdict}
 use Rattle.equivalence.specs.declared.Verdict.the-variants.{Right as IsRight, Wrong}
-use Rattle.equivalence.specs.declared.Judgement.the-variants.{Decided, Refused}
 
 -- ---- the lowest port
 
@@ -148,12 +146,12 @@ module _ (w n k : ℕ) (b : Bool) (ek : k ≡ kindOf w) (eb : b ≡ isRecipeKind
   kind-known : b ≡ isRecipeKind (kindOf w)
   kind-known = eb ∙ ap isRecipeKind ek
 
-  pub no-recipe : not b ≡ true → Judged w n (Refused 2 0)
+  pub no-recipe : not b ≡ true → judgeFault w n ≡ refused 2 0
   unfolding judgeFault
   no-recipe h = rw (sym kind-known ∙ not-true b h) refl
 
   module _ (hb : not b ≡ false) (f : ℕ) (ef : f ≡ recipeFault w) where
-    pub bad-recipe : (f ≡ 0 → ⊥) → Judged w n (Refused f 0)
+    pub bad-recipe : (f ≡ 0 → ⊥) → judgeFault w n ≡ refused f 0
     unfolding judgeFault
     bad-recipe h =
         rw (sym kind-known ∙ not-false b hb)
@@ -166,8 +164,11 @@ module _ (w n k : ℕ) (b : Bool) (ek : k ≡ kindOf w) (eb : b ≡ isRecipeKind
           rw (sym kind-known ∙ not-false b hb)
           (rw (eq-eqb (recipeFault w) 0 (sym ef ∙ hf)) (ap (λ (x : Bool). if x then accepted [] else refused 3 1) (sym ec)))
 
-      pub bad-width : not c ≡ true → Judged w n (Refused 3 1)
+      pub bad-width : not c ≡ true → judgeFault w n ≡ refused 3 1
       bad-width h = by-width ∙ rw (not-true c h) refl
 
       pub no-fault : not c ≡ false → judgeFault w n ≡ accepted []
       no-fault h = by-width ∙ rw (not-false c h) refl
+
+pub has-number : (f : ℕ) → (f ≡ 0 → ⊥) → 0 < f
+has-number f h = omega (arith, h)

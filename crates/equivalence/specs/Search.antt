@@ -1,19 +1,25 @@
--- The search for operands at which a recipe fails: from a state of the machine, with j + 1 places to go.
+-- The search for operands at which a recipe fails: tables of what happens at one place, sets of failing states from the top place
+-- down, and a walk from the lowest place up.
 -- Nothing here has to be believed: the proofs show that what it finds is what Verdicts.antt says.
-use Prim.Native.Nat.{ℕ, zero, suc, _+_, _*_, _/_, _%_, _^_, _<_}
-use mathlib.Core.Bool.{Bool, true, false, not, _||_}
-use lib.Dec.{eqb}
-use lib.ListN.{getD}
+use Prim.Native.Nat.{ℕ, zero, suc, _+_, _-_, _*_, _/_, _%_, _^_, _≤_, _<_}
+use mathlib.Core.Bool.{Bool, true, false, _||_}
+use lib.Dec.{eqb, ltb, leb}
+use lib.ListN.{getD, length}
 use mathlib.Core.Path.{_≡_}
 use mathlib.Core.List.{List}
 use Rattle.words.specs.Choice.{if_then_else_}
-use Rattle.alu.specs.Bits.{num}
+use Rattle.alu.specs.Bits.{num, bit, word}
 use Rattle.binding.specs.Right.{RightFor, Agrees}
 use Rattle.binding.specs.declared.Side.{Side}
+use Rattle.binding.specs.declared.Outputs.{Outputs}
 use Rattle.binding.specs.declared.Recipe.{Recipe}
-use Rattle.automaton.specs.Machine.{next, alike, last}
+use Rattle.automaton.specs.Place.{still}
+use Rattle.automaton.specs.Machine.{cellOf, nextBy, alikeBy, lastBy, agreesFrom}
+use Rattle.automaton.specs.declared.Cell.{Cell}
 use Rattle.automaton.specs.declared.State.{State}
-use Rattle.equivalence.specs.declared.search.Entry.{Entry}
+use Rattle.equivalence.specs.declared.moves.Tables.{Tables}
+use Rattle.equivalence.specs.declared.witness.Step.{Step}
+use Rattle.equivalence.specs.declared.witness.Step.the-variants.{Ends, Leads}
 use Rattle.equivalence.specs.declared.search.Outcome.{Outcome}
 use Rattle.equivalence.specs.declared.search.Outcome.the-variants.{Holds, Fails}
 
@@ -32,35 +38,115 @@ stateOf i =
       all = eqb (i / 32 % 2) 1;
     }
 
--- at the top place, for the top bits x and y
-abbrev pub topEntry : Side → Recipe → State → Bool → Bool → Entry
-topEntry s t a x y = record { bad = not (last s t a x y); left = num x; right = num y }
+-- ---- what happens at one place
 
--- at a lower place, for its bits x and y, from what was found for the state after them
-abbrev pub lowEntry : Side → Recipe → State → Bool → Bool → Entry → Entry
-lowEntry s t a x y e =
-    record { bad = not (alike s t a x y) || e .bad; left = num x + 2 * e .left; right = num y + 2 * e .right }
+-- what a side does, by the number of a ripple and a pair of bits
+abbrev pub cellAt : Side → ℕ → Cell
+cellAt s c = cellOf s (record { lo = eqb (c / 4 % 2) 1; hi = eqb (c / 8 % 2) 1 }) (eqb (c / 2 % 2) 1) (eqb (c % 2) 1)
 
--- the first bad one, else the last
-abbrev pub firstBad : Entry → Entry → Entry → Entry → Entry
-firstBad e f g h = if e .bad then e else if f .bad then f else if g .bad then g else h
+abbrev pub noCell : Cell
+noCell = record { ripple = still; bit = false; carry = false; overflow = false; order = false }
 
-unfoldable pub entryAt : Side → Recipe → ℕ → State → Entry
-entryAt s t zero a =
-    firstBad (topEntry s t a false false) (topEntry s t a false true) (topEntry s t a true false) (topEntry s t a true true)
-entryAt s t (suc j) a =
-    firstBad
-    (lowEntry s t a false false (entryAt s t j (next s t a false false)))
-    (lowEntry s t a false true (entryAt s t j (next s t a false true)))
-    (lowEntry s t a true false (entryAt s t j (next s t a true false)))
-    (lowEntry s t a true true (entryAt s t j (next s t a true true)))
+pub record Cells (s : Side) (found : List Cell) : Type 0 where
+  pub at : (c : ℕ) → c < 16 → getD found c noCell ≡ cellAt s c
 
-abbrev pub none : Entry
-none = record { bad = false; left = 0; right = 0 }
+-- the number of the state after a place, or 64 where O0 differs
+abbrev pub moveBy : Outputs → Cell → Cell → Bool → Bool → ℕ
+moveBy o p q any all = if alikeBy o p q then indexOf (nextBy p q any all) else 64
 
--- the table holds what the search finds for every state
-pub record Table (s : Side) (t : Recipe) (j : ℕ) (found : List Entry) : Type 0 where
-  pub at : (i : ℕ) → i < 64 → getD found i none ≡ entryAt s t j (stateOf i)
+-- 64 where a port differs at the top place, else 0
+abbrev pub topBy : Outputs → Cell → Cell → Bool → Bool → ℕ
+topBy o p q any all = if lastBy o p q any all then 0 else 64
+
+abbrev pub moveOf : Side → Recipe → State → Bool → Bool → ℕ
+moveOf s t a x y = moveBy (t .outputs) (cellOf s (a .source) x y) (cellOf (t .target) (a .target) x y) (a .any) (a .all)
+
+abbrev pub topOf : Side → Recipe → State → Bool → Bool → ℕ
+topOf s t a x y = topBy (t .outputs) (cellOf s (a .source) x y) (cellOf (t .target) (a .target) x y) (a .any) (a .all)
+
+-- where a table has the entry of a state and a pair of bits
+abbrev pub slot : ℕ → Bool → Bool → ℕ
+slot i false false = 4 * i
+slot i false true = 4 * i + 1
+slot i true false = 4 * i + 2
+slot i true true = 4 * i + 3
+
+pub record Table (f : State → Bool → Bool → ℕ) (table : List ℕ) : Type 0 where
+  pub at : (i : ℕ) (x y : Bool) → i < 64 → getD table (slot i x y) 0 ≡ f (stateOf i) x y
+
+pub record TableSizes (moves tops : List ℕ) : Type 0 where
+  pub moves-size : length moves ≡ 256
+  pub tops-size : length tops ≡ 256
+
+-- the tables of a source side and a recipe
+pub record Tabled (s : Side) (t : Recipe) (r : Tables) : Type 0 where
+  pub sizes : TableSizes (r .moves) (r .tops)
+  pub moves : Table (moveOf s t) (r .moves)
+  pub tops : Table (topOf s t) (r .tops)
+
+-- ---- sets of failing states: bit i for the state i
+
+-- an entry of a table fails: at once, or by leading into the set
+unfoldable pub fails : ℕ → ℕ → Bool
+fails set m = if leb 64 m then true else bit set m
+
+abbrev pub someFails : List ℕ → ℕ → ℕ → Bool
+someFails table set i =
+    fails set (getD table (4 * i) 0)
+    || (fails set (getD table (4 * i + 1) 0) || (fails set (getD table (4 * i + 2) 0) || fails set (getD table (4 * i + 3) 0)))
+
+-- the states that fail by some entry
+unfoldable pub round : List ℕ → ℕ → ℕ
+round table set = word 64 (someFails table set)
+
+-- the states that fail with j + 1 places to go
+unfoldable pub failing : List ℕ → List ℕ → ℕ → ℕ
+failing moves tops zero = round tops 0
+failing moves tops (suc j) = round moves (failing moves tops j)
+
+-- past the last set that is kept all are the same
+abbrev pub keptAt : ℕ → ℕ → ℕ
+keptAt last j = if ltb j last then j else last
+
+-- the sets with up to k + 1 places to go. How many are kept is the program's choice
+pub record Kept (moves tops : List ℕ) (k last : ℕ) (sets : List ℕ) : Type 0 where
+  pub size : length sets ≡ 64
+  pub most : last ≤ k
+  pub at : (j : ℕ) → j ≤ k → getD sets (keptAt last j) 0 ≡ failing moves tops j
+
+-- ---- operands at which the recipe fails
+
+-- the state i fails with j + 1 places to go, and the sets below are kept
+pub record Failing (moves tops sets : List ℕ) (last j i : ℕ) : Type 0 where
+  pub sizes : TableSizes moves tops
+  pub size : length sets ≡ 64
+  pub last-fits : last < 64
+  pub places : j < 64
+  pub state : i < 64
+  pub below : (m : ℕ) → m < j → getD sets (keptAt last m) 0 ≡ failing moves tops m
+  pub member : bit (failing moves tops j) i ≡ true
+
+-- of whatever side and recipe the tables are, the recipe fails there
+pub record Refuted (moves tops : List ℕ) (j i left right : ℕ) : Type 0 where
+  pub left-fits : left < 2 ^ suc j
+  pub right-fits : right < 2 ^ suc j
+  pub fails : (s : Side) (t : Recipe) → Table (moveOf s t) moves → Table (topOf s t) tops → agreesFrom s t j (stateOf i) left right ≡ false
+
+-- of whatever side and recipe the tables are, operands that begin with the pair k fail, or do so if those above them fail from the state m
+abbrev pub Stepped : List ℕ → List ℕ → List ℕ → ℕ → ℕ → ℕ → Step → Type 0
+Stepped moves tops sets last j i (Ends k) =
+    (k < 4)
+    × ((s : Side) (t : Recipe) → Table (moveOf s t) moves → Table (topOf s t) tops
+    → (l r : ℕ) → agreesFrom s t j (stateOf i) (k / 2 + 2 * l) (k % 2 + 2 * r) ≡ false)
+Stepped moves tops sets last j i (Leads k m) =
+    (k < 4) × (0 < j) × Failing moves tops sets last (j - 1) m
+    × ((s : Side) (t : Recipe) → Table (moveOf s t) moves
+    → (l r : ℕ) → agreesFrom s t (j - 1) (stateOf m) l r ≡ false → agreesFrom s t j (stateOf i) (k / 2 + 2 * l) (k % 2 + 2 * r) ≡ false)
+
+-- neither start state fails, or operands at which the recipe fails
+abbrev pub Decided : List ℕ → List ℕ → ℕ → ℕ → ℕ → Outcome → Type 0
+Decided moves tops k plain carried Holds = (bit (failing moves tops k) plain ≡ false) × (bit (failing moves tops k) carried ≡ false)
+Decided moves tops k plain carried (Fails l r c) = Refuted moves tops k (if c then carried else plain) l r
 
 -- what an outcome says
 abbrev pub Found : Side → Recipe → ℕ → Outcome → Type 0

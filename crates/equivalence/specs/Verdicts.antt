@@ -1,8 +1,8 @@
 -- The verdict on a recipe: document 01, "What a binding shows" and refusal 10; and the order in which a recipe handed in is judged.
 use Prim.Native.Nat.{ℕ, _^_, _<_}
 use mathlib.Core.Path.{_≡_}
-use mathlib.Core.Bool.{Bool, true, false, Bool·beq}
-use mathlib.Core.List.{List, [], _∷_}
+use mathlib.Core.Bool.{Bool, true, Bool·beq}
+use mathlib.Core.List.{[], _∷_}
 use lib.Dec.{eqb}
 use Rattle.words.specs.Choice.{if_then_else_}
 use Rattle.words.specs.Field.{kindOf}
@@ -63,10 +63,10 @@ judgeFault w n =
     else refused (recipeFault w) 0
     else refused 2 0
 
--- refused exactly with that, and otherwise a verdict
+-- refused exactly with that, which is a refusal's number and not 0, and otherwise a verdict
 abbrev pub Judged : ℕ → ℕ → Judgement → Type 0
 Judged w n (Decided v) = (judgeFault w n ≡ accepted []) × Says w n v
-Judged w n (Refused number place) = judgeFault w n ≡ refused number place
+Judged w n (Refused number place) = (judgeFault w n ≡ refused number place) × (0 < number)
 
 -- the judgement in document 01's numbers
 abbrev pub judgementPaper : Judgement → Paper

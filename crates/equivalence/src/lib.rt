@@ -1,10 +1,13 @@
 // The verdict on a recipe at a width: whether it shows what its source function shows at all operands and both carries.
+mod moves;
+mod rounds;
 mod search;
+mod witness;
 
 use alu::Ports;
 use search::Outcome;
 ghost use mathlib.Core.Path.{_≡_};
-ghost use Rattle.alu.specs.Evaluate as E;
+ghost use Rattle.alu.specs.Asked as Q;
 ghost use Rattle.binding.specs.Right as R;
 ghost use Rattle.equivalence.specs.Verdicts as D;
 
@@ -47,7 +50,7 @@ fn lowest_port(p: Ports, q: Ports) -> u32
 
 // The verdict on a recipe word. Of a wrong one the operands are those that the search meets first.
 pub fn verdict_on(word: u32, n: u32) -> Verdict
-    requires { ⌜ E.Width n ⌝ }
+    requires { ⌜ Q.Width n ⌝ }
     ensures { λ r. ⌜ D.Says word n r ⌝ }
 {
     let function = recipe::source_of(word);
@@ -72,7 +75,7 @@ pub fn verdict_on(word: u32, n: u32) -> Verdict
 
 // Whether a recipe word is right.
 pub fn is_right(word: u32, n: u32) -> bool
-    requires { ⌜ E.Width n ⌝ }
+    requires { ⌜ Q.Width n ⌝ }
     ensures { λ r. ⌜ r ≡ R.isRight word n ⌝ }
 {
     let verdict = verdict_on(word, n);

@@ -1,17 +1,11 @@
 -- `automaton::alike` meets its contract.
-use borrow.Author.Needs.{needs}
 use Rattle.automaton.proofs.Steps.{alike-bits}
+use borrow.Author.Needs.{needs}
 use Rattle.automaton.proofs.alike.Statement.{statement}
 use Rattle.automaton.proofs.alike.Tie as tie
 
-side-bit-requires : tie.Need-side-bit-requires
-side-bit-requires c κs = search needs
-
 shown-bit-requires : tie.Need-shown-bit-requires
 shown-bit-requires c κs = search needs
-
-side-bit-requires-2 : tie.Need-side-bit-requires-2
-side-bit-requires-2 c κs = search needs
 
 same-bit-requires : tie.Need-same-bit-requires
 same-bit-requires c κs = search needs
@@ -20,6 +14,4 @@ returns : tie.Need-returns
 returns c = search alike-bits
 
 pub alike-spec : {M : Type 1} → statement M
-alike-spec =
-    tie.close
-    (tie.spec side-bit-requires shown-bit-requires side-bit-requires-2 same-bit-requires returns)
+alike-spec = tie.close (tie.spec shown-bit-requires same-bit-requires returns)

@@ -1,7 +1,8 @@
 -- `equivalence::judge` meets its contract.
 use borrow.Author.Needs.{needs}
+use native.Mathlib.Omega.{arith}
 use Rattle.alu.proofs.Shown.{has-width}
-use Rattle.equivalence.proofs.Verdicting.{no-fault, no-recipe, bad-recipe, bad-width}
+use Rattle.equivalence.proofs.Verdicting.{no-fault, no-recipe, bad-recipe, bad-width, has-number}
 use Rattle.equivalence.proofs.judge.Statement.{statement}
 use Rattle.equivalence.proofs.judge.Tie as tie
 
@@ -12,19 +13,19 @@ is-recipe-kind-requires : tie.Need-is-recipe-kind-requires
 is-recipe-kind-requires c κs = search needs
 
 returns : tie.Need-returns
-returns c = search no-recipe
+returns c = (search no-recipe, omega arith)
 
 recipe-fault-requires : tie.Need-recipe-fault-requires
 recipe-fault-requires c κs = search needs
 
 returns-2 : tie.Need-returns-2
-returns-2 c = search bad-recipe
+returns-2 c = (search bad-recipe, search has-number)
 
 is-width-requires : tie.Need-is-width-requires
 is-width-requires c κs = search needs
 
 returns-3 : tie.Need-returns-3
-returns-3 c = search bad-width
+returns-3 c = (search bad-width, omega arith)
 
 verdict-on-requires : tie.Need-verdict-on-requires
 verdict-on-requires c κs = has-width _ _ (c .before .is-width .ensures) (c .if3 .left)
