@@ -9,7 +9,7 @@ use lib.Pow.{pow-mono}
 use lib.Bits.{bitAnd, and-block, and-le-l, and-le-r}
 use Rattle.alu.specs.Bits.{num, bit, word}
 use Rattle.alu.specs.Function.{minterm, logicWord}
-use Rattle.alu.specs.Evaluate.{Operands}
+use Rattle.alu.specs.Asked.{Operands}
 use Rattle.alu.proofs.Words.{pow2, word-lt, word-ext, word-bits, word-zeros, word-ones}
 
 and-bits : (x y : Bool) → bitAnd (num x) (num y) ≡ num (x && y)

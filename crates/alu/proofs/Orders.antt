@@ -9,7 +9,7 @@ use borrow.Author.Tests.{lt-ltb, le-ltb}
 use Rattle.words.specs.Choice.{if_then_else_}
 use Rattle.alu.specs.Bits.{num, bit, top, word}
 use Rattle.alu.specs.Function.{below, compared}
-use Rattle.alu.specs.Evaluate.{Operands}
+use Rattle.alu.specs.Asked.{Operands}
 use Rattle.alu.proofs.Values.{below-nat}
 use Rattle.alu.proofs.Words.{pow2, word-lt, top-split, suc-sub-one}
 

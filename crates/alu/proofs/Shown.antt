@@ -15,7 +15,8 @@ use Rattle.words.proofs.Lists.{getD-within}
 use Rattle.alu.specs.Bits.{num, bit}
 use Rattle.alu.specs.Wiring.{wired, carried}
 use Rattle.alu.specs.Function.{functions, functionOf, sum, minterm, logicWord, compared, ports}
-use Rattle.alu.specs.Evaluate.{isFunction, isWidth, firstOutOfRange, evaluation, Width, Operands}
+use Rattle.alu.specs.Evaluate.{isFunction, isWidth, firstOutOfRange, evaluation}
+use Rattle.alu.specs.Asked.{Width, Operands}
 use Rattle.alu.specs.declared.Ports.{Ports}
 use Rattle.alu.specs.declared.Kind.{Kind}
 use Rattle.alu.specs.declared.Kind.the-variants.{Arithmetic, Logic, Comparison}

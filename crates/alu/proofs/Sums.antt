@@ -12,7 +12,7 @@ use borrow.Author.Tests.{lt-ltb, le-ltb, le-leb, lt-leb}
 use Rattle.words.specs.Choice.{if_then_else_}
 use Rattle.alu.specs.Bits.{num, exor, bit, top, word}
 use Rattle.alu.specs.Function.{overflows, sum}
-use Rattle.alu.specs.Evaluate.{Operands}
+use Rattle.alu.specs.Asked.{Operands}
 use Rattle.alu.specs.Adder.{cut}
 use Rattle.alu.specs.declared.Ports.{Ports}
 use Rattle.alu.specs.declared.adder.CutSum.{CutSum}

@@ -1,14 +1,13 @@
 -- Document 01, "Functions": "The evaluator is given function, width, left, right and carry, in that order. It refuses with 3 at
 -- the first (place 0 to 4) out of range: an operand must be below 2^n, a carry at most 1."
-use Prim.Native.Nat.{ℕ, _^_, _≤_, _<_}
-use mathlib.Core.Bool.{Bool, true, false}
-use mathlib.Core.List.{List, [], _∷_}
+use Prim.Native.Nat.{ℕ, _^_}
+use mathlib.Core.Bool.{Bool, false}
+use mathlib.Core.List.{[], _∷_}
 use lib.Dec.{leb, ltb, eqb}
 use Rattle.words.specs.Choice.{if_then_else_}
 use Rattle.words.specs.Paper.{Paper, accepted, refused}
 use Rattle.alu.specs.Bits.{num}
 use Rattle.alu.specs.Function.{functionOf, ports}
-use Rattle.alu.specs.declared.Ports.{Ports}
 use Rattle.alu.specs.declared.Evaluation.{Evaluation}
 use Rattle.alu.specs.declared.Evaluation.the-variants.{Shown, OutOfRange}
 
@@ -39,14 +38,3 @@ evaluation f n left right carry =
 abbrev pub paperOf : Evaluation → Paper
 paperOf (Shown p) = accepted (p .o0 ∷ num (p .ocout) ∷ num (p .ovf) ∷ num (p .o1) ∷ [])
 paperOf (OutOfRange place) = refused 3 place
-
--- what a call below the evaluator asks of its caller
-pub record Width (n : ℕ) : Type 0 where
-  pub least : 1 ≤ n
-  pub most : n ≤ 64
-
-pub record Operands (n left right : ℕ) : Type 0 where
-  pub least : 1 ≤ n
-  pub most : n ≤ 64
-  pub left-fits : left < 2 ^ n
-  pub right-fits : right < 2 ^ n

@@ -3,3 +3,4 @@ pub mod Wiring
 pub mod Function
 pub mod Evaluate
 pub mod Adder
+pub mod Asked

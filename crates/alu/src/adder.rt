@@ -10,7 +10,7 @@ ghost use lib.Dec.{ltb, leb};
 ghost use Rattle.words.specs.Choice.{if_then_else_};
 ghost use Rattle.alu.specs.Bits as B;
 ghost use Rattle.alu.specs.Function as F;
-ghost use Rattle.alu.specs.Evaluate as E;
+ghost use Rattle.alu.specs.Asked as Q;
 ghost use Rattle.alu.specs.Adder.{cut};
 
 // A sum cut to the width, and whether it reached 2^n.
@@ -34,7 +34,7 @@ fn wrapped(s: u64, a: u64, c: bool) -> bool
 }
 
 fn add(n: u32, a: u64, b: u64, c: bool) -> CutSum
-    requires { ⌜ E.Operands n a b ⌝ }
+    requires { ⌜ Q.Operands n a b ⌝ }
     ensures { λ r. ⌜ r ≡ cut n (a + b + B.num c) ⌝ }
 {
     let s = std::num::wrapping_add_u64(std::num::wrapping_add_u64(a, b), number(c));
@@ -64,7 +64,7 @@ fn overflow(p: bool, q: bool, s: bool) -> bool
 
 // The ports of a sum.
 pub fn sum(n: u32, a: u64, b: u64, c: bool) -> Ports
-    requires { ⌜ E.Operands n a b ⌝ }
+    requires { ⌜ Q.Operands n a b ⌝ }
     ensures { λ r. ⌜ r ≡ F.sum n a b c ⌝ }
 {
     let t = add(n, a, b, c);

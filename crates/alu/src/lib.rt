@@ -15,6 +15,7 @@ pub use wiring::wired;
 ghost use mathlib.Core.Path.{_≡_};
 ghost use Rattle.alu.specs.Function as F;
 ghost use Rattle.alu.specs.Evaluate as E;
+ghost use Rattle.alu.specs.Asked as Q;
 
 // The number of functions, and the greatest width.
 pub const FUNCTIONS: u32 = 27;
@@ -197,7 +198,7 @@ pub fn drives(kind: Kind) -> PortSet
 
 // The four ports of a function.
 pub fn ports_of(kind: Kind, n: u32, left: u64, right: u64, carry: bool) -> Ports
-    requires { ⌜ E.Operands n left right ⌝ }
+    requires { ⌜ Q.Operands n left right ⌝ }
     ensures { λ r. ⌜ r ≡ F.ports kind n left right carry ⌝ }
 {
     match kind {

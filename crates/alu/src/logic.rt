@@ -4,7 +4,7 @@ ghost use mathlib.Core.Path.{_≡_};
 ghost use Prim.Native.Nat.{_*_, _≤_};
 ghost use Rattle.alu.specs.Bits as B;
 ghost use Rattle.alu.specs.Function as F;
-ghost use Rattle.alu.specs.Evaluate as E;
+ghost use Rattle.alu.specs.Asked as Q;
 
 fn gated(b: bool, word: u64) -> u64
     ensures { λ r. ⌜ (r ≡ B.num b * word) × (r ≤ word) ⌝ }
@@ -13,7 +13,7 @@ fn gated(b: bool, word: u64) -> u64
 }
 
 pub fn logic_word(n: u32, vector: u32, left: u64, right: u64) -> u64
-    requires { ⌜ E.Operands n left right ⌝ }
+    requires { ⌜ Q.Operands n left right ⌝ }
     ensures { λ r. ⌜ r ≡ F.logicWord n vector left right ⌝ }
 {
     let both = left & right;

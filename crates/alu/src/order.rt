@@ -2,10 +2,10 @@
 use crate::top;
 ghost use mathlib.Core.Path.{_≡_};
 ghost use Rattle.alu.specs.Function as F;
-ghost use Rattle.alu.specs.Evaluate as E;
+ghost use Rattle.alu.specs.Asked as Q;
 
 fn below(n: u32, a: u64, b: u64) -> bool
-    requires { ⌜ E.Operands n a b ⌝ }
+    requires { ⌜ Q.Operands n a b ⌝ }
     ensures { λ r. ⌜ r ≡ F.below n a b ⌝ }
 {
     if top(n, a) {
@@ -16,7 +16,7 @@ fn below(n: u32, a: u64, b: u64) -> bool
 }
 
 pub fn compared(n: u32, less: bool, equal: bool, greater: bool, left: u64, right: u64) -> bool
-    requires { ⌜ E.Operands n left right ⌝ }
+    requires { ⌜ Q.Operands n left right ⌝ }
     ensures { λ r. ⌜ r ≡ F.compared n less equal greater left right ⌝ }
 {
     if below(n, left, right) {

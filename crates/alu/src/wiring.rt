@@ -3,11 +3,11 @@ ghost use mathlib.Core.Path.{_≡_};
 ghost use Prim.Native.Nat.{_-_, _^_, _<_};
 ghost use Rattle.alu.specs.Bits as B;
 ghost use Rattle.alu.specs.Wiring as W;
-ghost use Rattle.alu.specs.Evaluate as E;
+ghost use Rattle.alu.specs.Asked as Q;
 
 // The word of n ones.
 pub fn ones(n: u32) -> u64
-    requires { ⌜ E.Width n ⌝ }
+    requires { ⌜ Q.Width n ⌝ }
     ensures { λ r. ⌜ r ≡ 2 ^ n - 1 ⌝ }
 {
     0xffff_ffff_ffff_ffffu64 >> (64 - n)
@@ -15,7 +15,7 @@ pub fn ones(n: u32) -> u64
 
 // All n bits of a word complemented.
 pub fn complement(n: u32, word: u64) -> u64
-    requires { ⌜ E.Width n × (word < 2 ^ n) ⌝ }
+    requires { ⌜ Q.Width n × (word < 2 ^ n) ⌝ }
     ensures { λ r. ⌜ r ≡ W.complement n word ⌝ }
 {
     ones(n) - word
@@ -23,7 +23,7 @@ pub fn complement(n: u32, word: u64) -> u64
 
 // The word that a wiring code gives of two words.
 pub fn wired(n: u32, code: u32, left: u64, right: u64) -> u64
-    requires { ⌜ E.Operands n left right ⌝ }
+    requires { ⌜ Q.Operands n left right ⌝ }
     ensures { λ r. ⌜ (r ≡ W.wired n code left right) × (r < 2 ^ n) ⌝ }
 {
     if 6 <= code {
@@ -53,7 +53,7 @@ pub fn carried(code: u32, carry: bool) -> bool
 
 // The top bit of a word of n bits.
 pub fn top(n: u32, word: u64) -> bool
-    requires { ⌜ E.Width n × (word < 2 ^ n) ⌝ }
+    requires { ⌜ Q.Width n × (word < 2 ^ n) ⌝ }
     ensures { λ r. ⌜ r ≡ B.top n word ⌝ }
 {
     ones(n) / 2 < word

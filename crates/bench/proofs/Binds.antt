@@ -8,7 +8,7 @@ use lib.ListN.{length, getD}
 use borrow.Author.Tests.{eq-eqb, ne-eqb, eqb-true, eqb-false, not-true, not-false}
 use Rattle.words.specs.Choice.{if_then_else_}
 use Rattle.words.proofs.Choices.{either}
-use Rattle.alu.specs.Evaluate.{Width}
+use Rattle.alu.specs.Asked.{Width}
 use Rattle.recipe.specs.Fields.{sourceOf}
 use Rattle.equivalence.specs.Verdicts.{Says}
 use Rattle.equivalence.specs.declared.Verdict.{Verdict}

@@ -1,25 +1,14 @@
 -- Words copied into lent ones, and what then stands in a table and in the words of a job.
 use mathlib.Core.Path.{_≡_, refl, sym, ap, _∙_}
-use mathlib.Core.List.{List, [], _∷_, _++_}
-use Prim.Native.Nat.{ℕ, zero, suc, _+_, _-_, _≤_, _<_}
-use native.Mathlib.Nat.{add-zero, zero-add}
+use mathlib.Core.List.{List, _∷_, _++_}
+use Prim.Native.Nat.{ℕ, zero, suc, _+_, _-_, _≤_}
+use native.Mathlib.Nat.{zero-add}
 use native.Mathlib.Omega.{arith}
-use lib.ListN.{length, take, drop, getD, set, replicate, length-append, drop-of-length-le}
+use lib.ListN.{length, take, drop, set, replicate, length-append}
 use lib.Seq.{sets, sets-eq, length-sets, length-take-le, take-at}
-use Rattle.words.proofs.Lists.{drop-next}
+use Rattle.words.proofs.Copies.{sets-append}
 use Rattle.reader.specs.Kinds.{mostSources, mostTargets}
 use Rattle.bench.specs.Calls.{tableOf}
-
--- ---- the loop
-
-module _ (ws lent whole : List ℕ) (at i : ℕ) (e : sets lent (at + i) (drop i ws) ≡ whole) where
-  pub one-copied : i < length ws → sets (set lent (at + i) (getD ws i 0)) (at + (i + 1)) (drop (i + 1) ws) ≡ whole
-  one-copied h =
-      let q : at + (i + 1) ≡ suc (at + i) = omega arith in
-      rw q (rw (drop-next ws i h) at e)
-
-  pub all-copied : length ws ≤ i → lent ≡ whole
-  all-copied h = rw (drop-of-length-le ws h) at e
 
 -- ---- a table
 
@@ -34,12 +23,6 @@ table-filled ws t h e =
     e ∙ sets-eq ws (replicate 27 0) 0 (omega arith) ∙ ap (λ (l : List ℕ). ws ++ l) (rw zero-add (drop-replicate (length ws) 27 0))
 
 -- ---- a job without rules
-
--- words set one list after the other
-sets-append : (xs ys l : List ℕ) (i : ℕ) → sets (sets l i xs) (i + length xs) ys ≡ sets l i (xs ++ ys)
-sets-append [] ys l i = rw add-zero refl
-sets-append (x ∷ xs) ys l i =
-    let e : i + suc (length xs) ≡ suc i + length xs = omega arith in rw e (sets-append xs ys (set l i x) (suc i))
 
 sets-taken : (xs l : List ℕ) (i : ℕ) → i + length xs ≤ length l → take (i + length xs) (sets l i xs) ≡ take i l ++ xs
 sets-taken xs l i h =

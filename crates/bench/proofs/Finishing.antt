@@ -18,7 +18,8 @@ use Rattle.reader.specs.declared.JobRead.the-variants as read
 use Rattle.reader.proofs.Parts.{Entry}
 use Rattle.reader.proofs.JobWords.{WellformedJob, well-formed}
 use Rattle.table.specs.Table.{entryPlace}
-use Rattle.writer.specs.Write.{mappingWords, writtenOf, lentAfter, Writable}
+use Rattle.writer.specs.Asked.{Writable}
+use Rattle.writer.specs.Write.{mappingWords, writtenOf, lentAfter}
 use Rattle.writer.specs.declared.Written.{Written}
 use Rattle.writer.specs.declared.Written.the-variants.{Words, TooFew}
 use Rattle.bench.specs.Sound.{sourcesOn, targetsOn, bindingsOn, jobWords, filled, empty, placeSound, boundSound, holds, isSound}
@@ -67,12 +68,6 @@ module _ (b : Bench) (h : Shaped b) (s : isSound b ≡ true) where
   pub source-entry : (m : ℕ) → m < length (sourcesOn b) → Entry SOURCE (getD (sourcesOn b) m 0)
   source-entry m l =
       subst (Entry SOURCE) (source-word m l) (the-job .well .source-words m (omega (arith, sources-length, the-job .sources)))
-
-  pub source-rise : (m : ℕ) → m + 1 < length (sourcesOn b)
-      → entryPlace (getD (sourcesOn b) m 0) < entryPlace (getD (sourcesOn b) (m + 1) 0)
-  source-rise m l =
-      let r = the-job .well .sources-rise m (omega (arith, sources-length, the-job .sources)) in
-      omega (arith, r, ap entryPlace (source-word m (omega arith)), ap entryPlace (source-word (m + 1) l))
 
 -- ---- every source bound: the bindings are the first places
 

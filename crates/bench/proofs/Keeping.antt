@@ -52,7 +52,7 @@ module _ (n : ℕ) (ts : List ℕ) (w : ℕ) (rule : ruleFault w ≡ 0) (target 
           rw add-one (rw (t .0) (keep u (t .1)))
 
 -- what was bound is sound
-bound-sound : (b : Bench) (w : ℕ) → Checked b w → isRight w (b .width) ≡ true → isSound (boundAt b (placeFor b w) w) ≡ true
+pub bound-sound : (b : Bench) (w : ℕ) → Checked b w → isRight w (b .width) ≡ true → isSound (boundAt b (placeFor b w) w) ≡ true
 unfolding inTables
 bound-sound b w c right =
     let s = sound-holds b (c .sound) in

@@ -6,7 +6,6 @@ pub mod Binds
 pub mod Opening
 pub mod Pricing
 pub mod Finishing
-pub mod JobParts
-pub mod JobAccepting
 pub mod Keeping
 pub mod Finished
+pub mod Allowed

@@ -22,7 +22,7 @@ use Rattle.bench.specs.Sound.{sourcesOn, targetsOn, jobWords, holds, tab
 use Rattle.bench.specs.Calls.{gives, tableOf, opened, openOf, openFor}
 use Rattle.bench.specs.declared.Bench.{Bench}
 use Rattle.bench.specs.declared.Answer.the-variants.{Done, Refused}
-use Rattle.bench.proofs.JobAccepting.{laid, laid-well-formed, accepts}
+use Rattle.reader.proofs.JobAccepting.{laid, laid-well-formed, accepts}
 use Rattle.bench.proofs.Soundness.{sound-when}
 
 -- ---- the bench of a job
@@ -110,7 +110,7 @@ zeros-bound width ts [] n = zeros-empty n
 zeros-bound width ts (s ∷ ss) zero = refl
 zeros-bound width ts (s ∷ ss) (suc n) = zeros-bound width ts ss n
 
-table-words : (ws : List ℕ) (n : ℕ) → length ws ≡ n → take n (tableOf ws) ≡ ws
+pub table-words : (ws : List ℕ) (n : ℕ) → length ws ≡ n → take n (tableOf ws) ≡ ws
 unfolding tableOf
 table-words ws n e = take-at ws (replicate (27 - length ws) 0) n e
 
@@ -122,14 +122,14 @@ module _ (ws : List ℕ) (job : Job) (e : jobOf ws ≡ read.Accepted job) where
   well : WellformedJob ws job
   well = well-formed ws job e
 
-  source-count : length (sourcesOf ws job) ≡ job .sources
+  pub source-count : length (sourcesOf ws job) ≡ job .sources
   source-count = length-take-le (job .sources) (drop 2 ws) (omega (arith, length-drop 2 ws, well .size))
 
-  target-count : length (targetsOf ws job) ≡ job .targets
+  pub target-count : length (targetsOf ws job) ≡ job .targets
   target-count =
       length-take-le (job .targets) (drop (targetsStart job) ws) (omega (arith, length-drop (targetsStart job) ws, well .size))
 
-  source-at : (m : ℕ) → m < length (sourcesOf ws job) → getD ws (2 + m) 0 ≡ getD (sourcesOf ws job) m 0
+  pub source-at : (m : ℕ) → m < length (sourcesOf ws job) → getD ws (2 + m) 0 ≡ getD (sourcesOf ws job) m 0
   source-at m h = sym (getD-take (job .sources) (drop 2 ws) m 0 (omega (arith, source-count)) ∙ getD-drop 2 ws m 0)
 
   target-at : (m : ℕ) → m < length (targetsOf ws job) → getD ws (targetsStart job + m) 0 ≡ getD (targetsOf ws job) m 0

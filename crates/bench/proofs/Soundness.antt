@@ -13,7 +13,8 @@ use Rattle.words.specs.Field.{kindOf, wordOf}
 use Rattle.words.proofs.Choices.{either}
 use Rattle.words.proofs.Fields.{laid, onto}
 use Rattle.words.proofs.Lists.{drop-next, part-from}
-use Rattle.alu.specs.Evaluate.{isWidth, Width}
+use Rattle.alu.specs.Evaluate.{isWidth}
+use Rattle.alu.specs.Asked.{Width}
 use Rattle.alu.proofs.Shown.{width-of}
 use Rattle.recipe.specs.Fields.{sourceOf}
 use Rattle.recipe.specs.Layout.{recipeFault}

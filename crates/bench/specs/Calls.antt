@@ -69,9 +69,9 @@ placeOf (s ∷ ss) f = if eqb (entryPlace s) f then 0 else placeOf ss f + 1
 abbrev pub placeFor : Bench → ℕ → ℕ
 placeFor b w = placeOf (sourcesOn b) (sourceOf w)
 
--- exactly one place changed
-abbrev pub boundAt : Bench → ℕ → ℕ → Bench
-boundAt b i w =
+-- the bench with these words bound
+abbrev pub holding : Bench → List ℕ → Bench
+holding b bound =
     record {
       width = b .width;
       inverter = b .inverter;
@@ -81,8 +81,12 @@ boundAt b i w =
       nsources = b .nsources;
       targets = b .targets;
       ntargets = b .ntargets;
-      bound = set (b .bound) i w;
+      bound = bound;
     }
+
+-- exactly one place changed
+abbrev pub boundAt : Bench → ℕ → ℕ → Bench
+boundAt b i w = holding b (set (b .bound) i w)
 
 -- not refused with 8: the source function is in the job, and so is the target, if there is one
 unfoldable pub inTables : Bench → ℕ → Bool

@@ -6,7 +6,7 @@ ghost use mathlib.Core.Path.{_≡_};
 ghost use mathlib.Core.List.{_∷_, _++_};
 ghost use Prim.Native.Nat.{_≤_};
 ghost use lib.ListN.{length};
-ghost use Rattle.alu.specs.Evaluate as E;
+ghost use Rattle.alu.specs.Asked as Q;
 ghost use Rattle.reader.specs.Job as J;
 ghost use Rattle.reader.specs.Kinds.{mostSources, mostTargets};
 ghost use Rattle.bench.specs.Sound as S;
@@ -97,7 +97,7 @@ pub fn rule_fault(word: u32) -> u32
 
 // Whether a word may be bound to a function: a right rule of it, from scratch or from a target of the table.
 fn bindable(n: u32, targets: &[u32], function: u32, word: u32) -> bool
-    requires { ⌜ E.Width n ⌝ }
+    requires { ⌜ Q.Width n ⌝ }
     ensures { λ r. ⌜ r ≡ S.bindable n (now (targets .entry)) function word ⌝ }
 {
     if rule_fault(word) != 0 {
@@ -113,7 +113,7 @@ fn bindable(n: u32, targets: &[u32], function: u32, word: u32) -> bool
 }
 
 fn place_sound(n: u32, targets: &[u32], function: u32, word: u32) -> bool
-    requires { ⌜ E.Width n ⌝ }
+    requires { ⌜ Q.Width n ⌝ }
     ensures { λ r. ⌜ r ≡ S.placeSound n (now (targets .entry)) function word ⌝ }
 {
     if word == 0 {
@@ -124,7 +124,7 @@ fn place_sound(n: u32, targets: &[u32], function: u32, word: u32) -> bool
 
 // Each source's place, and nothing in the places past them.
 fn bound_sound(n: u32, targets: &[u32], sources: &[u32], bound: &[u32]) -> bool
-    requires { ⌜ E.Width n × (length (now sources) ≤ length (now bound)) ⌝ }
+    requires { ⌜ Q.Width n × (length (now sources) ≤ length (now bound)) ⌝ }
     ensures { λ r. ⌜ r ≡ S.boundSound n (now (targets .entry)) (now (sources .entry)) (now (bound .entry)) ⌝ }
 {
     let mut i = 0;

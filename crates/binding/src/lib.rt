@@ -9,7 +9,7 @@ pub use output::outputs_show;
 pub use output::shown_bit;
 ghost use mathlib.Core.Path.{_≡_};
 ghost use Prim.Native.Nat.{_^_, _<_};
-ghost use Rattle.alu.specs.Evaluate as E;
+ghost use Rattle.alu.specs.Asked as Q;
 ghost use Rattle.binding.specs.Binding as B;
 
 // A function on wired inputs.
@@ -96,7 +96,7 @@ pub fn recipe_of(word: u32) -> Recipe
 
 // The ports of a side.
 pub fn side_shows(side: Side, n: u32, left: u64, right: u64, carry: bool) -> Ports
-    requires { ⌜ E.Operands n left right ⌝ }
+    requires { ⌜ Q.Operands n left right ⌝ }
     ensures { λ r. ⌜ (r ≡ B.sideShows side n left right carry) × (r .o0 < 2 ^ n) ⌝ }
 {
     let kind = side.kind;
@@ -111,7 +111,7 @@ pub fn side_shows(side: Side, n: u32, left: u64, right: u64, carry: bool) -> Por
 
 // The ports of a recipe.
 pub fn shows(recipe: Recipe, n: u32, left: u64, right: u64, carry: bool) -> Ports
-    requires { ⌜ E.Operands n left right ⌝ }
+    requires { ⌜ Q.Operands n left right ⌝ }
     ensures { λ r. ⌜ r ≡ B.shows recipe n left right carry ⌝ }
 {
     let target = recipe.target;

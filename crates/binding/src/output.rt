@@ -4,7 +4,7 @@ use alu::Ports;
 ghost use mathlib.Core.Path.{_≡_};
 ghost use mathlib.Core.Bool.{Bool·beq};
 ghost use Prim.Native.Nat.{_^_, _<_};
-ghost use Rattle.alu.specs.Evaluate as E;
+ghost use Rattle.alu.specs.Asked as Q;
 ghost use Rattle.alu.specs.Bits as W;
 ghost use Rattle.binding.specs.Binding as B;
 
@@ -21,7 +21,7 @@ pub fn shown_bit(code: u32, bit: bool) -> bool
 
 // The main output.
 fn shown_word(n: u32, code: u32, word: u64) -> u64
-    requires { ⌜ E.Width n × (word < 2 ^ n) ⌝ }
+    requires { ⌜ Q.Width n × (word < 2 ^ n) ⌝ }
     ensures { λ r. ⌜ r ≡ B.shownWord n code word ⌝ }
 {
     if 3 <= code {
@@ -68,7 +68,7 @@ pub fn comparison(code: u32, to1: bool, gor: bool, gand: bool, s: bool, tovf: bo
 
 // The ports that the output codes show of a target's.
 pub fn outputs_show(outputs: Outputs, n: u32, target: Ports) -> Ports
-    requires { ⌜ E.Width n × (target .o0 < 2 ^ n) ⌝ }
+    requires { ⌜ Q.Width n × (target .o0 < 2 ^ n) ⌝ }
     ensures { λ r. ⌜ r ≡ B.outputsShow outputs n target ⌝ }
 {
     let to0 = target.o0;

@@ -1,10 +1,11 @@
 -- What the checker promises, of every answer that meets its contract. A mapping is accepted exactly if it is what document 01 asks
 -- of a mapping; and where it is not, for want of a binding or by a wrong one, the lowest such function is named.
-use mathlib.Core.Path.{_≡_, refl, subst, _∙_}
+use mathlib.Core.Path.{_≡_, refl, ap, subst, _∙_}
 use mathlib.Core.Logic.{_↔_}
-use mathlib.Core.List.{List}
+use mathlib.Core.List.{List, []}
 use Prim.Native.Nat.{ℕ, _<_}
 use native.Mathlib.Omega.{arith}
+use Rattle.words.specs.Paper.{accepted}
 use Rattle.binding.specs.Right.{Right}
 use Rattle.reader.specs.declared.Job.{Job}
 use Rattle.reader.specs.declared.Mapping.{Mapping}
@@ -12,11 +13,12 @@ use Rattle.pricer.specs.Pair.{pairOf}
 use Rattle.pricer.specs.declared.Pair.{Pair}
 use Rattle.pricer.specs.declared.Pair.the-variants as pair
 use Rattle.pricer.proofs.Pairs.{of-pair}
-use Rattle.checker.specs.Check.{Ruling, Answers, ruledOf, rulingOf, Checks}
+use Rattle.checker.specs.Check.{paperOf, Ruling, Answers, ruledOf, rulingOf, Checks}
 use Rattle.checker.specs.Mapped.{sourceAt, bindingAt, Fitting, Bound, Complete, RightlyMapped, NamesUnbound, NamesWrong}
 use Rattle.checker.specs.declared.Checked.{Checked}
 use Rattle.checker.specs.declared.Checked.the-variants.{Accepted}
 use Rattle.checker.proofs.ByIndex.{fitted, accepting, accepted-judged, lowest-unbound, lowest-wrong}
+use Rattle.checker.proofs.Papers.{accepted-paper}
 
 accepted-pair : (jw mw : List ℕ) (p : Pair) → pairOf jw mw ≡ p → Answers (ruledOf jw mw p) Accepted → RightlyMapped jw mw
 accepted-pair jw mw (pair.Read j m) e h = let r = of-pair jw mw j m e in accepted-judged jw mw j m (r .0) (r .1) h
@@ -24,23 +26,24 @@ accepted-pair jw mw (pair.JobRefused n i) e h = absurd (let z : _≡_ {A = ℕ} 
 accepted-pair jw mw (pair.MappingRefused n i) e h = absurd (let z : _≡_ {A = ℕ} 0 1 = cc in omega arith)
 
 module _ (jw mw : List ℕ) (r : Checked) (answer : Checks jw mw r) where
-  rightly-mapped : r ≡ Accepted → RightlyMapped jw mw
+  rightly-mapped : paperOf r ≡ accepted [] → RightlyMapped jw mw
   unfolding rulingOf
-  rightly-mapped e = accepted-pair jw mw (pairOf jw mw) refl (subst (λ (x : Checked). Checks jw mw x) e answer)
+  rightly-mapped e =
+      accepted-pair jw mw (pairOf jw mw) refl (subst (λ (x : Checked). Checks jw mw x) (accepted-paper jw mw r answer e) answer)
 
-  accepted : RightlyMapped jw mw → r ≡ Accepted
-  accepted q =
+  has-passed : RightlyMapped jw mw → paperOf r ≡ accepted []
+  has-passed q =
       let j = q .job in
       let m = q .mapping in
       let ej = q .fitting .job-well-formed in
       let em = q .fitting .mapping-well-formed in
       let ruled = fitted jw mw j m ej em (q .fitting .fits) ∙ accepting jw mw j m ej em (q .complete) (q .all-right) (q .rightly-priced) in
-      subst (λ (x : Ruling). Answers x r) ruled answer
+      ap paperOf (subst (λ (x : Ruling). Answers x r) ruled answer)
 
   -- Accepted exactly if job and mapping are well formed, the mapping fits, is complete, all its bindings are right at the job's width
   -- for every left, every right and both carries, and it is rightly priced.
-  pub accepted-exactly : (r ≡ Accepted) ↔ RightlyMapped jw mw
-  accepted-exactly = (rightly-mapped, accepted)
+  pub accepted-exactly : (paperOf r ≡ accepted []) ↔ RightlyMapped jw mw
+  accepted-exactly = (rightly-mapped, has-passed)
 
   module _ (j : Job) (m : Mapping) (q : Fitting jw mw j m) where
     -- Where a source has no binding, the lowest such is named, whatever the bindings are.

@@ -2,7 +2,7 @@
 use mathlib.Core.Path.{_≡_, refl, sym, ap, subst, _∙_}
 use mathlib.Core.Logic.{⊎-elim}
 use mathlib.Core.Bool.{Bool, true, false, false≢true}
-use mathlib.Core.List.{List}
+use mathlib.Core.List.{List, [], _∷_}
 use Prim.Native.Nat.{ℕ, _+_, _-_, _≤_, _<_}
 use native.Mathlib.Omega.{arith}
 use native.Mathlib.Nat.{eq-or-lt-of-le}
@@ -11,7 +11,9 @@ use lib.ListN.{length, take, drop, getD, length-drop}
 use lib.Seq.{length-take-le, getD-take, getD-drop}
 use borrow.Author.Tests.{eq-eqb, ne-eqb, eqb-true}
 use Rattle.words.specs.Field.{contentOf}
+use Rattle.words.specs.Paper.{refusedWith}
 use Rattle.words.proofs.Choices.{either, false-of}
+use Rattle.alu.specs.Bits.{num}
 use Rattle.recipe.specs.Fields.{sourceOf}
 use Rattle.binding.specs.Binding.{plain, recipeOf}
 use Rattle.binding.specs.Right.{Right, isRight}
@@ -32,7 +34,7 @@ use Rattle.pricer.specs.Pricing.{glueOf}
 use Rattle.pricer.specs.declared.Fit.{Fit}
 use Rattle.pricer.specs.declared.Fit.the-variants.{Fits, Misfit}
 use Rattle.pricer.proofs.Pairs.{both-read}
-use Rattle.checker.specs.Check.{Ruling, Gives, Names, Answers, binds, firstUnbound, unlessWrong, accountOf, fittingOf, unlessMisfit, judgementOf, ruledOf, rulingOf, Checks}
+use Rattle.checker.specs.Check.{paperOf, Ruling, Gives, Names, Answers, binds, firstUnbound, unlessWrong, accountOf, fittingOf, unlessMisfit, judgementOf, ruledOf, rulingOf, Checks}
 use Rattle.checker.specs.Mapped.{sourceAt, bindingAt, Bound, Complete, AllRight, RightlyMapped, NamesUnbound, NamesWrong}
 use Rattle.checker.specs.declared.Checked.{Checked}
 use Rattle.checker.specs.declared.Checked.the-variants.{Accepted, JobRefused, MappingRefused, Refused, Wrong}
@@ -71,7 +73,8 @@ of-wrong w n h = false-of (isRight w n) (λ e. h (right-of w n e))
 -- ---- what a ruling that names a binding leaves to the program
 
 abbrev WrongOf : ℕ → ℕ → Checked → ℕ → ℕ → ℕ → Bool → Type 0
-WrongOf w n r port l rr c = (r ≡ Wrong (sourceOf w) port l rr c) × Differs (plain (sourceOf w)) (recipeOf w) n port l rr c
+WrongOf w n r port l rr c =
+    (paperOf r ≡ refusedWith 10 (sourceOf w) (port ∷ l ∷ rr ∷ num c ∷ [])) × Differs (plain (sourceOf w)) (recipeOf w) n port l rr c
 
 wrong-answer : (w n : ℕ) (r : Checked) → Answers (Names w n) r
     → (port : ℕ) × ((l : ℕ) × ((rr : ℕ) × ((c : Bool) × WrongOf w n r port l rr c)))
@@ -79,7 +82,8 @@ wrong-answer w n Accepted h = absurd h
 wrong-answer w n (JobRefused number place) h = absurd h
 wrong-answer w n (MappingRefused number place) h = absurd h
 wrong-answer w n (Refused number place) h = absurd h
-wrong-answer w n (Wrong f port l rr c) h = (port, (l, (rr, (c, (ap (λ (x : ℕ). Wrong x port l rr c) (h .0), h .1)))))
+wrong-answer w n (Wrong f port l rr c) h =
+    (port, (l, (rr, (c, (ap (λ (x : ℕ). refusedWith 10 x (port ∷ l ∷ rr ∷ num c ∷ [])) (h .0), h .1)))))
 
 -- ---- a job and a mapping that are well formed
 
@@ -227,7 +231,7 @@ module _ (jw mw : List ℕ) (j : Job) (m : Mapping) (ej : jobOf jw ≡ ReadJob j
             λ i l u.
             rises-to jw sourcesStart (j .sources) contentOf (jobs.well-formed jw j ej .sources-rise) at i
             (first-least (boundIn bindings) sources at first i (unbound-fails i l u)) l;
-        answer = unbound-named e at first within r h;
+        answer = ap paperOf (unbound-named e at first within r h);
       }
 
   pub lowest-unbound : fit ≡ Fits → (i : ℕ) → i < j .sources → (Bound mw m (sourceAt jw i) → ⊥)

@@ -4,8 +4,10 @@
 use Prim.Native.Nat.{ℕ, _+_, _<_, _≤_}
 use mathlib.Core.Path.{_≡_}
 use mathlib.Core.Bool.{Bool}
-use mathlib.Core.List.{List}
+use mathlib.Core.List.{List, [], _∷_}
 use lib.ListN.{getD}
+use Rattle.words.specs.Paper.{refused, refusedWith}
+use Rattle.alu.specs.Bits.{num}
 use Rattle.recipe.specs.Fields.{sourceOf}
 use Rattle.binding.specs.Binding.{plain, recipeOf}
 use Rattle.binding.specs.Right.{Right}
@@ -20,8 +22,8 @@ use Rattle.table.specs.Table.{entryPlace, sourcesOf, targetsOf, bindingsOf}
 use Rattle.pricer.specs.Fitting.{fitOf}
 use Rattle.pricer.specs.Pricing.{glueOf}
 use Rattle.pricer.specs.declared.Fit.the-variants.{Fits}
+use Rattle.checker.specs.Check.{paperOf}
 use Rattle.checker.specs.declared.Checked.{Checked}
-use Rattle.checker.specs.declared.Checked.the-variants.{Refused, Wrong}
 
 -- the function of the job's i-th source word, and the mapping's k-th binding
 abbrev pub sourceAt : List ℕ → ℕ → ℕ
@@ -62,7 +64,7 @@ pub record NamesUnbound (jobWords mappingWords : List ℕ) (job : Job) (mapping 
   pub within : at < job .sources
   pub unbound : Bound mappingWords mapping (sourceAt jobWords at) → ⊥
   pub lowest : (i : ℕ) → i < job .sources → (Bound mappingWords mapping (sourceAt jobWords i) → ⊥) → sourceAt jobWords at ≤ sourceAt jobWords i
-  pub answer : r ≡ Refused 9 (sourceAt jobWords at)
+  pub answer : paperOf r ≡ refused 9 (sourceAt jobWords at)
 
 -- the answer is 10 at the lowest function whose binding is wrong, with operands in range and the lowest port that differs there
 pub record NamesWrong (mappingWords : List ℕ) (mapping : Mapping) (n : ℕ) (r : Checked) : Type 0 where
@@ -75,5 +77,5 @@ pub record NamesWrong (mappingWords : List ℕ) (mapping : Mapping) (n : ℕ) (r
   pub left : ℕ
   pub right : ℕ
   pub carry : Bool
-  pub answer : r ≡ Wrong (sourceOf (bindingAt mappingWords at)) port left right carry
+  pub answer : paperOf r ≡ refusedWith 10 (sourceOf (bindingAt mappingWords at)) (port ∷ left ∷ right ∷ num carry ∷ [])
   pub differs : Differs (plain (sourceOf (bindingAt mappingWords at))) (recipeOf (bindingAt mappingWords at)) n port left right carry

@@ -6,7 +6,7 @@ use pricer::Pair;
 use reader::Job;
 use reader::Mapping;
 ghost use mathlib.Core.Path.{_≡_};
-ghost use Rattle.alu.specs.Evaluate as E;
+ghost use Rattle.alu.specs.Asked as Q;
 ghost use Rattle.checker.specs.Check as C;
 
 // Accepted; the first refusal, 1 to 6, of the job or of the mapping; another, 7, 8, 9 or 11; or 10, with the function whose
@@ -65,7 +65,7 @@ fn first_unbound(sources: &[u32], bindings: &[u32]) -> u32
 
 // The verdict on the first binding that is wrong, or Right.
 fn first_wrong(bindings: &[u32], n: u32) -> Verdict
-    requires { ⌜ E.Width n ⌝ }
+    requires { ⌜ Q.Width n ⌝ }
     ensures { λ r. ⌜ C.SaysOfAll n (now (bindings .entry)) r ⌝ }
 {
     let mut i = 0;
@@ -81,7 +81,7 @@ fn first_wrong(bindings: &[u32], n: u32) -> Verdict
 
 // Whether the glue word says what the glue of the bindings is.
 fn account(job: Job, mapping: Mapping, bindings: &[u32]) -> Checked
-    requires { ⌜ E.Width (job .width) ⌝ }
+    requires { ⌜ Q.Width (job .width) ⌝ }
     ensures { λ r. ⌜ r ≡ C.accountOf job mapping (now (bindings .entry)) ⌝ }
 {
     if pricer::glue_of(job, bindings) != mapping.glue {
@@ -95,7 +95,7 @@ fn account(job: Job, mapping: Mapping, bindings: &[u32]) -> Checked
 
 // A mapping that fits its job: is it complete, right and rightly priced?
 fn judge_fitting(job: Job, sources: &[u32], mapping: Mapping, bindings: &[u32]) -> Checked
-    requires { ⌜ E.Width (job .width) ⌝ }
+    requires { ⌜ Q.Width (job .width) ⌝ }
     ensures { λ r. ⌜ C.Answers (C.fittingOf job (now (sources .entry)) mapping (now (bindings .entry))) r ⌝ }
 {
     let unbound = first_unbound(sources, bindings);
@@ -132,7 +132,7 @@ pub fn judge_mapping(
     mapping: Mapping,
     bindings: &[u32],
 ) -> Checked
-    requires { ⌜ E.Width (job .width) ⌝ }
+    requires { ⌜ Q.Width (job .width) ⌝ }
     ensures { λ r. ⌜ C.Answers (C.judgementOf job (now (sources .entry)) (now (targets .entry)) mapping (now (bindings .entry))) r ⌝ }
 {
     let fit = pricer::fit_of(job, sources, targets, mapping, bindings);

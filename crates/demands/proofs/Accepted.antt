@@ -6,7 +6,6 @@ use Prim.Native.Nat.{ℕ, _+_, _<_}
 use native.Mathlib.Omega.{arith}
 use lib.ListN.{length, drop, getD}
 use lib.Seq.{getD-take, getD-drop}
-use Rattle.words.specs.Choice.{if_then_else_}
 use Rattle.words.specs.Field.{contentOf}
 use Rattle.recipe.specs.Fields.{sourceOf}
 use Rattle.binding.specs.Binding.{plain, recipeOf}
@@ -38,7 +37,7 @@ module _ (ws : List ℕ) (job : Job) (e : jobOf ws ≡ job-read.Accepted job) (b
       ∙ sym (getD-take (length (bindingWords bound)) (drop 1 (chosenWords job bound)) k 0 (omega arith))
       ∙ ap (λ (x : List ℕ). getD x k 0) (same-bindings ws job e bound b) ∙ bindings-at bound k h
 
-  source-listed : (k : ℕ) → k < length bound → lists (sourcesOf ws job) (sourceOf (getD bound k 0)) ≡ true
+  pub source-listed : (k : ℕ) → k < length bound → lists (sourcesOf ws job) (sourceOf (getD bound k 0)) ≡ true
   source-listed k h =
       let n = b .one-each in
       let l = sources-length ws job e in

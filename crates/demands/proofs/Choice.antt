@@ -1,7 +1,7 @@
 -- What document 01's choice has to be: each chosen rule is a rule of the job, usable, and none gives less at its turn, none earlier as
 -- little; and a choice is made exactly where every source has a usable rule.
 use mathlib.Core.Path.{_≡_, refl, sym, ap, _∙_}
-use mathlib.Core.Bool.{Bool, true, false, _&&_, false≢true, true≢false}
+use mathlib.Core.Bool.{Bool, true, false, false≢true, true≢false}
 use mathlib.Core.List.{List, [], _∷_, _++_}
 use Prim.Native.Nat.{ℕ, zero, suc, _+_, _≤_, _<_}
 use native.Mathlib.Omega.{arith}
@@ -14,7 +14,7 @@ use Rattle.words.specs.Choice.{if_then_else_}
 use Rattle.words.proofs.Choices.{either}
 use Rattle.table.specs.Table.{entryPlace}
 use Rattle.glue.specs.declared.Prices.{Prices}
-use Rattle.mapper.specs.Choose.{serves, none, beats, better, bestOf, Choice, Mapped, Unmappable, withRule, choose}
+use Rattle.mapper.specs.Choose.{serves, none, beats, better, bestOf, Mapped, Unmappable, withRule, choose}
 use Rattle.mapper.specs.declared.choose.Best.{Best}
 
 -- some rule of the list is usable for the function

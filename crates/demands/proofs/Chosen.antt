@@ -1,6 +1,6 @@
 -- The mapper's choice is one usable rule for each source.
 use mathlib.Core.Path.{_≡_, sym, ap, _∙_}
-use mathlib.Core.Bool.{true, _&&_}
+use mathlib.Core.Bool.{true}
 use mathlib.Core.List.{List, []}
 use Prim.Native.Nat.{ℕ, _+_, _<_}
 use native.Mathlib.Nat.{zero-add}
@@ -12,11 +12,12 @@ use borrow.Author.Tests.{eqb-true}
 use Rattle.words.specs.Field.{contentOf}
 use Rattle.words.proofs.Choices.{and-split}
 use Rattle.recipe.specs.Fields.{sourceOf}
-use Rattle.recipe.specs.Layout.{recipeFault}
 use Rattle.binding.specs.Right.{isRight}
+use Rattle.reader.specs.Kinds.{RULE}
 use Rattle.reader.specs.Job.{jobOf, rulesStart}
 use Rattle.reader.specs.declared.Job.{Job}
 use Rattle.reader.specs.declared.JobRead.the-variants as job-read
+use Rattle.reader.proofs.Parts.{RecipeWord}
 use Rattle.reader.proofs.JobWords.{WellformedJob, well-formed}
 use Rattle.table.specs.Table.{entryPlace, hasTarget, sourcesOf, targetsOf, rulesOf}
 use Rattle.pricer.specs.Pricing.{pricesOf}
@@ -59,19 +60,18 @@ module _ (ws : List ℕ) (job : Job) (e : jobOf ws ≡ job-read.Accepted job) (b
     usable-parts =
         and-split (hasTarget (targetsOf ws job) (getD bound k 0)) (isRight (getD bound k 0) (job .width)) (serves-source .1)
 
-    rule-faultless : recipeFault (getD bound k 0) ≡ 0
-    rule-faultless =
+    pub chosen-rule : RecipeWord RULE (getD bound k 0)
+    chosen-rule =
         let l = least-at in
         let at : getD ws (rulesStart job + l .place) 0 ≡ getD bound k 0 = sym (getD-drop (rulesStart job) ws (l .place) 0) ∙ l .is-rule in
-        rw (← at)
-        (facts .rule-words (l .place) (omega (arith, l .within, length-drop (rulesStart job) ws, facts .size)) .no-fault)
+        rw (← at) (facts .rule-words (l .place) (omega (arith, l .within, length-drop (rulesStart job) ws, facts .size)))
 
   pub chosen-bindable : Bindable ws job bound
   chosen-bindable =
       record {
         one-each = one-each;
         its-source = λ k h. serves-source k h .0;
-        faultless = rule-faultless;
+        faultless = λ k h. chosen-rule k h .no-fault;
         has-target = λ k h. usable-parts k h .0;
         is-right = λ k h. usable-parts k h .1;
       }

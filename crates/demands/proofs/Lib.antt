@@ -3,4 +3,9 @@ pub mod Choice
 pub mod Written
 pub mod Chosen
 pub mod Accepted
+pub mod Sources
+pub mod Outcomes
+pub mod Benches
+pub mod AnyOrder
+pub mod Finishing
 pub mod Demands

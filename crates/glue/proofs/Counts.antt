@@ -15,7 +15,7 @@ use lib.Pow.{pow-pos, shr-shr, mod-mod-pow, field as cut-shr}
 use borrow.Author.Tests.{le-leb, lt-leb}
 use Rattle.words.specs.Choice.{if_then_else_}
 use Rattle.alu.specs.Bits.{num, bit}
-use Rattle.alu.specs.Evaluate.{Width}
+use Rattle.alu.specs.Asked.{Width}
 use Rattle.glue.specs.Glue.{countOf, wirings, complements, carryIn, carryOut, comparison, distinct, mainOutput, scratch, minterms, codePrice, pricesOf, comparisonCodes, InRange}
 use Rattle.glue.specs.Sets.{codes, partsOf, used, priceOf}
 use Rattle.glue.specs.declared.Prices.{Prices}

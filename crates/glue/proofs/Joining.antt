@@ -2,13 +2,12 @@
 use mathlib.Core.Path.{_≡_, refl, sym, ap, ap₂, _∙_}
 use mathlib.Core.Bool.{Bool, _||_}
 use mathlib.Core.List.{List, [], _∷_, _++_}
-use Prim.Native.Nat.{ℕ, _+_, _-_, _*_, _/_, _%_, _^_, _≤_, _<_, max}
-use native.Mathlib.Nat.{zero-div, zero-mod, div-one}
+use Prim.Native.Nat.{ℕ, _+_, _*_, _/_, _%_, _^_, _≤_, _<_, max}
+use native.Mathlib.Nat.{zero-div, zero-mod}
 use native.Mathlib.Omega.{arith}
 use lib.Arith.{bin-ind}
 use lib.Bits.{bitOr, or-step, or-shr, or-comm, or-self, or-zero-r}
 use lib.Dec.{eqb}
-use lib.Pow.{mod-mod-pow, field as cut-shr}
 use lib.ListN.{length, drop, getD, drop-of-length-le}
 use borrow.Author.Tests.{eq-eqb, ne-eqb}
 use Rattle.words.specs.Choice.{if_then_else_}
@@ -16,6 +15,7 @@ use Rattle.words.specs.Field.{field, contentOf}
 use Rattle.words.proofs.Lists.{drop-next}
 use Rattle.alu.specs.Bits.{bit}
 use Rattle.recipe.specs.Fields.{targetOf, vectorOf, fieldsOf}
+use Rattle.recipe.proofs.Content.{same-target, same-vector, same-fields}
 use Rattle.glue.specs.Glue.{some, fromScratch, inUse, countOf, glue}
 use Rattle.glue.specs.Sets.{targetUsage, scratchUsage, usageOf, usage, partsOf, used, priceOf}
 use Rattle.glue.specs.declared.Prices.{Prices}
@@ -118,39 +118,12 @@ usage-twice ws = usage-append ws ws ∙ or-self (usage ws)
 pub glue-same : (n : ℕ) (p : Prices) (xs ys : List ℕ) → usage xs ≡ usage ys → glue n p xs ≡ glue n p ys
 glue-same n p xs ys e = sym (price-is-glue n p xs) ∙ ap (priceOf n p) e ∙ price-is-glue n p ys
 
--- ---- a rule and the binding made of it differ in their kind, which no field holds
-
--- a field below the kind
-within : (v w at size : ℕ) → contentOf v ≡ contentOf w → at + size ≤ 28 → field v at size ≡ field w at size
-within v w at size e h = below v ∙ ap (λ (x : ℕ). field x at size) e ∙ sym (below w)
-  where
-    below : (x : ℕ) → field x at size ≡ field (contentOf x) at size
-    below x =
-        let e28 : 28 ≡ 28 - at - size + size + at = omega arith in
-        sym (
-        (λ i. div-one x i % 2 ^ e28 i / 2 ^ at % 2 ^ size)
-        ∙ ap (λ (y : ℕ). y % 2 ^ size) (cut-shr x (28 - at - size + size) at)
-        ∙ mod-mod-pow (x / 2 ^ at) (28 - at - size) size)
-
-same-fields : (v w : ℕ) → contentOf v ≡ contentOf w → fieldsOf v ≡ fieldsOf w
-same-fields v w e = λ i.
-    record {
-      source = within v w 23 5 e (omega arith) i;
-      target = within v w 18 5 e (omega arith) i;
-      left = within v w 15 3 e (omega arith) i;
-      right = within v w 12 3 e (omega arith) i;
-      carry = within v w 10 2 e (omega arith) i;
-      main = within v w 8 2 e (omega arith) i;
-      cout = within v w 6 2 e (omega arith) i;
-      ovf = within v w 5 1 e (omega arith) i;
-      blank = within v w 4 1 e (omega arith) i;
-      code = within v w 0 4 e (omega arith) i;
-    }
+-- ---- a rule and the binding made of it differ in their kind alone
 
 pub usage-content : (v w : ℕ) → contentOf v ≡ contentOf w → usageOf v ≡ usageOf w
 unfolding usageOf
 usage-content v w e =
-    λ i. if eqb (same-fields v w e i .target) 0 then scratchUsage (same-fields v w e i .code) else targetUsage (same-fields v w e i)
+    λ i. if eqb (same-target v w e i) 0 then scratchUsage (same-vector v w e i) else targetUsage (same-fields v w e i)
 
 -- ---- how the code comes to the set
 

@@ -4,7 +4,7 @@ ghost use mathlib.Core.Path.{_≡_};
 ghost use Prim.Native.Nat.{_+_, _*_, _≤_, _<_};
 ghost use Rattle.words.specs.Choice.{if_then_else_};
 ghost use Rattle.alu.specs.Bits as B;
-ghost use Rattle.alu.specs.Evaluate as E;
+ghost use Rattle.alu.specs.Asked as Q;
 ghost use Rattle.glue.specs.Glue as G;
 ghost use Rattle.glue.specs.Sets as S;
 
@@ -82,7 +82,7 @@ fn when(used: bool, amount: u32) -> u32
 
 // Left and right.
 fn wirings(n: u32, prices: Prices, parts: Parts) -> u32
-    requires { ⌜ E.Width n ⌝ }
+    requires { ⌜ Q.Width n ⌝ }
     ensures { λ r. ⌜ (r ≡ G.wirings n prices (S.used parts)) × (r ≤ 163200) ⌝ }
 {
     amount_each(steps(distinct(parts.left, 0, 6)), n, prices.multiplexer)
@@ -91,7 +91,7 @@ fn wirings(n: u32, prices: Prices, parts: Parts) -> u32
 
 // NOT SI0 and NOT SI1, each once, whichever port uses it.
 fn complements(n: u32, prices: Prices, parts: Parts) -> u32
-    requires { ⌜ E.Width n ⌝ }
+    requires { ⌜ Q.Width n ⌝ }
     ensures { λ r. ⌜ (r ≡ G.complements n prices (S.used parts)) × (r ≤ 32640) ⌝ }
 {
     let inverters = amount(n, prices.inverter);
@@ -107,7 +107,7 @@ fn carry_in(prices: Prices, parts: Parts) -> u32
 }
 
 fn main_output(n: u32, prices: Prices, parts: Parts) -> u32
-    requires { ⌜ E.Width n ⌝ }
+    requires { ⌜ Q.Width n ⌝ }
     ensures { λ r. ⌜ (r ≡ G.mainOutput n prices (S.used parts)) × (r ≤ 48960) ⌝ }
 {
     let outputs = distinct(parts.main, 1, 2) + when(has(parts.scratch, 0), 1);
@@ -124,7 +124,7 @@ fn carry_out(prices: Prices, parts: Parts) -> u32
 
 // The price of a comparison code.
 fn code_price(n: u32, prices: Prices, code: u32) -> u32
-    requires { ⌜ E.Width n × (code < 16) ⌝ }
+    requires { ⌜ Q.Width n × (code < 16) ⌝ }
     ensures { λ r. ⌜ r ≡ G.codePrice n prices code ⌝ }
 {
     let a = prices.inverter as u32;
@@ -155,7 +155,7 @@ fn code_price(n: u32, prices: Prices, code: u32) -> u32
 
 // The prices of the comparison codes in use.
 fn code_prices(n: u32, prices: Prices, part: u64) -> u32
-    requires { ⌜ E.Width n ⌝ }
+    requires { ⌜ Q.Width n ⌝ }
     ensures { λ r. ⌜ (r ≡ G.pricesOf (G.codePrice n prices) (B.bit part) G.comparisonCodes) × (r ≤ 149940) ⌝ }
 {
     let mut total = 0;
@@ -168,7 +168,7 @@ fn code_prices(n: u32, prices: Prices, part: u64) -> u32
 }
 
 fn comparison(n: u32, prices: Prices, parts: Parts) -> u32
-    requires { ⌜ E.Width n ⌝ }
+    requires { ⌜ Q.Width n ⌝ }
     ensures { λ r. ⌜ (r ≡ G.comparison n prices (S.used parts)) × (r ≤ 153510) ⌝ }
 {
     amount(steps(distinct(parts.code, 1, 15)), prices.multiplexer)
@@ -177,7 +177,7 @@ fn comparison(n: u32, prices: Prices, parts: Parts) -> u32
 
 // The gates of the minterms in use, and the complements that they read.
 fn scratch(n: u32, prices: Prices, parts: Parts) -> u32
-    requires { ⌜ E.Width n ⌝ }
+    requires { ⌜ Q.Width n ⌝ }
     ensures { λ r. ⌜ (r ≡ G.scratch n prices (S.used parts)) × (r ≤ 212160) ⌝ }
 {
     let minterms = distinct(parts.minterms, 0, 4);
@@ -193,7 +193,7 @@ fn scratch(n: u32, prices: Prices, parts: Parts) -> u32
 
 // The count of a set.
 pub fn price(usage: u64, n: u32, prices: Prices) -> u32
-    requires { ⌜ E.Width n ⌝ }
+    requires { ⌜ Q.Width n ⌝ }
     ensures { λ r. ⌜ (r ≡ S.priceOf n prices usage) × (r ≤ 612000) ⌝ }
 {
     let parts = parts_of(usage);

@@ -9,7 +9,7 @@ use lib.ListN.{length, take, drop, length-take, length-drop}
 use lib.Seq.{length-take-le}
 use Rattle.words.specs.Choice.{if_then_else_}
 use Rattle.words.proofs.Lists.{part-from}
-use Rattle.alu.specs.Evaluate.{Width}
+use Rattle.alu.specs.Asked.{Width}
 use Rattle.reader.specs.Kinds.{mostSources}
 use Rattle.reader.specs.Job.{jobOf, targetsStart, rulesStart}
 use Rattle.reader.specs.declared.Job.{Job}
@@ -22,12 +22,13 @@ use Rattle.glue.specs.Sets.{usage, priceOf}
 use Rattle.glue.specs.declared.Prices.{Prices}
 use Rattle.glue.proofs.Joining.{price-is-glue}
 use Rattle.pricer.specs.Pricing.{pricesOf}
-use Rattle.writer.specs.Write.{mappingWords, writtenOf, lentAfter, Writable}
+use Rattle.writer.specs.Asked.{Writable}
+use Rattle.writer.specs.Write.{mappingWords, writtenOf, lentAfter}
 use Rattle.writer.specs.declared.Written.{Written}
 use Rattle.writer.specs.declared.Written.the-variants.{Words, TooFew}
 use Rattle.mapper.specs.Choose.{Choice, Mapped, Unmappable, choose}
-use Rattle.mapper.specs.Chosen.{keptAs, Kept}
-use Rattle.mapper.specs.Mapping.{choiceOf, chosenWords, Bound, answerTo, answerFor, answerOf, lentTo, lentFor, lentOf}
+use Rattle.mapper.specs.Chosen.{keptAs, Kept, Bound}
+use Rattle.mapper.specs.Mapping.{choiceOf, chosenWords, answerTo, answerFor, answerOf, lentTo, lentFor, lentOf}
 use Rattle.mapper.specs.declared.choose.Chosen.{Chosen}
 use Rattle.mapper.specs.declared.Answer.{Answer}
 use Rattle.mapper.specs.declared.Answer.the-variants.{Mapping, Refused}

@@ -1,11 +1,13 @@
 -- How the code keeps its choice. Nobody has to believe this: Choose.antt says what the choice is.
-use Prim.Native.Nat.{ℕ}
+use Prim.Native.Nat.{ℕ, _≤_}
 use mathlib.Core.Path.{_≡_}
 use mathlib.Core.Bool.{Bool, true, false}
 use mathlib.Core.List.{List}
 use lib.Bits.{bitOr}
 use lib.ListN.{length, take}
+use Rattle.alu.specs.Asked.{Width}
 use Rattle.reader.specs.Kinds.{mostSources}
+use Rattle.reader.specs.declared.Job.{Job}
 use Rattle.words.specs.Choice.{if_then_else_}
 use Rattle.glue.specs.Sets.{usage, usageOf, priceOf}
 use Rattle.glue.specs.declared.Prices.{Prices}
@@ -25,3 +27,10 @@ pub record Kept (c : Chosen) (sources : ℕ) (choice : Choice) : Type 0 where
   pub same : keptAs c sources ≡ choice
   pub size : length (c .words) ≡ mostSources
   pub uses : c .mapped ≡ true → c .used ≡ usage (take sources (c .words))
+
+-- what the writing of a choice asks of its caller
+pub record Bound (job : Job) (c : Chosen) : Type 0 where
+  pub width : Width (job .width)
+  pub few : job .sources ≤ mostSources
+  pub size : length (c .words) ≡ mostSources
+  pub uses : c .used ≡ usage (take (job .sources) (c .words))

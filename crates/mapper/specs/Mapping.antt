@@ -1,23 +1,18 @@
 -- What the mapper answers and writes: the refusals 1 to 6 of the job first, then 12, and 23 last.
-use Prim.Native.Nat.{ℕ, _≤_}
-use mathlib.Core.Path.{_≡_}
+use Prim.Native.Nat.{ℕ}
 use mathlib.Core.List.{List, [], _∷_}
-use lib.ListN.{length, take}
+use lib.ListN.{length}
 use Rattle.words.specs.Paper.{Paper, accepted, refused}
-use Rattle.alu.specs.Evaluate.{Width}
-use Rattle.reader.specs.Kinds.{mostSources}
 use Rattle.reader.specs.Job.{jobOf}
 use Rattle.reader.specs.declared.Job.{Job}
 use Rattle.reader.specs.declared.JobRead.{JobRead}
 use Rattle.reader.specs.declared.JobRead.the-variants as read
 use Rattle.table.specs.Table.{sourcesOf, targetsOf, rulesOf}
-use Rattle.glue.specs.Sets.{usage}
 use Rattle.pricer.specs.Pricing.{pricesOf, glueOf}
 use Rattle.writer.specs.Write.{mappingWords, writtenOf, lentAfter}
 use Rattle.writer.specs.declared.Written.{Written}
 use Rattle.writer.specs.declared.Written.the-variants.{Words, TooFew}
 use Rattle.mapper.specs.Choose.{Choice, Mapped, Unmappable, choose}
-use Rattle.mapper.specs.declared.choose.Chosen.{Chosen}
 use Rattle.mapper.specs.declared.Answer.{Answer}
 use Rattle.mapper.specs.declared.Answer.the-variants.{Mapping, Refused}
 
@@ -28,13 +23,6 @@ choiceOf ws job = choose (job .width) (pricesOf job) (targetsOf ws job) (rulesOf
 -- the mapping that binds by these rules, with its glue count
 abbrev pub chosenWords : Job → List ℕ → List ℕ
 chosenWords job bound = mappingWords (job .width) bound (glueOf job bound)
-
--- what the writing of a choice asks of its caller
-pub record Bound (job : Job) (c : Chosen) : Type 0 where
-  pub width : Width (job .width)
-  pub few : job .sources ≤ mostSources
-  pub size : length (c .words) ≡ mostSources
-  pub uses : c .used ≡ usage (take (job .sources) (c .words))
 
 -- ---- the answer
 

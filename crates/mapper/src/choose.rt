@@ -4,7 +4,7 @@ ghost use mathlib.Core.Path.{_≡_};
 ghost use mathlib.Core.List.{[]};
 ghost use Prim.Native.Nat.{_≤_};
 ghost use lib.ListN.{length};
-ghost use Rattle.alu.specs.Evaluate as E;
+ghost use Rattle.alu.specs.Asked as Q;
 ghost use Rattle.reader.specs.Kinds.{mostSources};
 ghost use Rattle.mapper.specs.Choose as C;
 ghost use Rattle.mapper.specs.Chosen as K;
@@ -39,7 +39,7 @@ fn beats(best: Best, total: u32) -> bool
 
 // One rule more for a function, beside bindings that use a set. A rule is judged last, and only if it would make less glue.
 fn consider(best: Best, word: u32, function: u32, used: u64, terms: Terms, targets: &[u32]) -> Best
-    requires { ⌜ E.Width (terms .width) ⌝ }
+    requires { ⌜ Q.Width (terms .width) ⌝ }
     ensures { λ r. ⌜ r ≡ C.better (K.besides (terms .width) (terms .prices) used) (terms .width) (now (targets .entry)) function best word ⌝ }
 {
     if recipe::source_of(word) != function {
@@ -67,7 +67,7 @@ fn consider(best: Best, word: u32, function: u32, used: u64, terms: Terms, targe
 // "Sources are taken in order; each gets the usable rule that makes the glue of the bindings so far least, the earlier rule on equal
 // glue." The loop over the sources is left from inside when a function proves unmappable.
 pub fn choose(terms: Terms, sources: &[u32], targets: &[u32], rules: &[u32]) -> Chosen
-    requires { ⌜ E.Width (terms .width) × (length (now sources) ≤ mostSources) ⌝ }
+    requires { ⌜ Q.Width (terms .width) × (length (now sources) ≤ mostSources) ⌝ }
     ensures { λ r. ⌜ K.Kept r (length (now (sources .entry)))
         (C.choose (terms .width) (terms .prices) (now (targets .entry)) (now (rules .entry)) [] (now (sources .entry))) ⌝ }
 {

@@ -40,7 +40,7 @@ fn choice_of(job: Job, words: &[u32]) -> Chosen
 
 // Writes the mapping that binds by the chosen rules.
 fn write_chosen(job: Job, chosen: Chosen, lent: &mut [u32]) -> Written
-    requires { ⌜ M.Bound job chosen ⌝ }
+    requires { ⌜ K.Bound job chosen ⌝ }
     ensures answer { λ r. ⌜ r ≡ W.writtenOf (job .sources) (now (lent .entry)) ⌝ }
     ensures written { λ r. ⌜ now (lent .exit) ≡ W.lentAfter (M.chosenWords job (take (job .sources) (chosen .words))) (now (lent .entry)) ⌝ }
 {

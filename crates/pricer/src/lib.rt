@@ -11,7 +11,7 @@ pub use reading::read_pair;
 pub use reading::sources_of;
 pub use reading::targets_of;
 ghost use mathlib.Core.Path.{_≡_};
-ghost use Rattle.alu.specs.Evaluate as E;
+ghost use Rattle.alu.specs.Asked as Q;
 ghost use Rattle.pricer.specs.Pricing as P;
 
 // A job and a mapping that were read, or the first refusal, 1 to 6, of the one or the other.
@@ -48,7 +48,7 @@ pub fn prices_of(job: Job) -> Prices
 
 // The glue count of bindings under a job.
 pub fn glue_of(job: Job, bindings: &[u32]) -> u32
-    requires { ⌜ E.Width (job .width) ⌝ }
+    requires { ⌜ Q.Width (job .width) ⌝ }
     ensures { λ r. ⌜ r ≡ P.glueOf job (now (bindings .entry)) ⌝ }
 {
     let prices = prices_of(job);
@@ -64,7 +64,7 @@ pub fn price_mapping(
     mapping: Mapping,
     bindings: &[u32],
 ) -> Priced
-    requires { ⌜ E.Width (job .width) ⌝ }
+    requires { ⌜ Q.Width (job .width) ⌝ }
     ensures { λ r. ⌜ r ≡ P.priceOf job (now (sources .entry)) (now (targets .entry)) mapping (now (bindings .entry)) ⌝ }
 {
     let fit = fit_of(job, sources, targets, mapping, bindings);

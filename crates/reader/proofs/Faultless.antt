@@ -10,7 +10,8 @@ use borrow.Author.Tests.{ne-eqb, eqb-true, eqb-false, leb-true, ltb-true, ltb-fa
 use Rattle.words.specs.Field.{field, kindOf, contentOf}
 use Rattle.words.proofs.Choices.{either}
 use Rattle.words.proofs.Lists.{drop-next}
-use Rattle.alu.specs.Evaluate.{isFunction, Width}
+use Rattle.alu.specs.Evaluate.{isFunction}
+use Rattle.alu.specs.Asked.{Width}
 use Rattle.alu.proofs.Shown.{width-of}
 use Rattle.recipe.specs.Fields.{sourceOf}
 use Rattle.reader.specs.Kinds.{HEADER, PRICES, SOURCE, TARGET, RULE, BINDING}

@@ -8,3 +8,6 @@ pub mod JobAnswers
 pub mod MappingWords
 pub mod MappingAnswers
 pub mod Accepting
+pub mod JobParts
+pub mod JobAccepting
+pub mod Numbers

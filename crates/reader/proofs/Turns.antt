@@ -8,7 +8,8 @@ use lib.Dec.{eqb}
 use lib.ListN.{length, drop, getD, drop-of-length-le}
 use Rattle.words.specs.Choice.{if_then_else_}
 use Rattle.words.proofs.Lists.{drop-next}
-use Rattle.reader.specs.Reading.{wordFault, raised, noted, after, Counted, stepOf, reading}
+use Rattle.reader.specs.Asked.{Counted}
+use Rattle.reader.specs.Reading.{wordFault, raised, noted, after, stepOf, reading}
 use Rattle.reader.specs.declared.sequence.File.{File}
 use Rattle.reader.specs.declared.sequence.State.{State}
 use Rattle.reader.specs.declared.step.Step.{Step}

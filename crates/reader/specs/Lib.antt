@@ -3,3 +3,4 @@ pub mod Sequence
 pub mod Reading
 pub mod Job
 pub mod Mapping
+pub mod Asked

@@ -1,5 +1,5 @@
 -- Document 01, "Refusals that come from the input": "word by word, 2 to 6 in each".
-use Prim.Native.Nat.{ℕ, _+_, _^_, _≤_}
+use Prim.Native.Nat.{ℕ, _+_, _^_}
 use mathlib.Core.Bool.{Bool, true, false}
 use mathlib.Core.List.{List, [], _∷_}
 use lib.Dec.{eqb, ltb}
@@ -74,13 +74,6 @@ noted kind function s =
 
 abbrev pub after : State → ℕ → State
 after s w = noted (kindOf w) (functionIn w) s
-
--- no kind was counted more than n times: what a step asks of its caller, so that no count wraps
-pub record Counted (s : State) (n : ℕ) : Type 0 where
-  pub few-sources : s .sources ≤ n
-  pub few-targets : s .targets ≤ n
-  pub few-rules : s .rules ≤ n
-  pub few-bindings : s .bindings ≤ n
 
 abbrev pub stepOf : File → State → ℕ → Step
 stepOf file s w = if eqb (wordFault file s w) 0 then Next (after s w) else Bad (wordFault file s w)

@@ -15,6 +15,7 @@ ghost use mathlib.Core.Path.{_≡_};
 ghost use Prim.Native.Nat.{_≤_};
 ghost use Rattle.reader.specs.Kinds.{mostJobWords};
 ghost use Rattle.reader.specs.Reading as R;
+ghost use Rattle.reader.specs.Asked as Q;
 
 // What one word gives: the next state, or the number of its refusal.
 pub enum Step {
@@ -109,7 +110,7 @@ fn raised(count: u32, more: bool) -> u32
 
 // The state after a word that passed.
 fn after(s: State, word: u32) -> State
-    requires { ⌜ R.Counted s mostJobWords ⌝ }
+    requires { ⌜ Q.Counted s mostJobWords ⌝ }
     ensures { λ r. ⌜ r ≡ R.after s word ⌝ }
 {
     let kind = kind_of(word);
@@ -124,7 +125,7 @@ fn after(s: State, word: u32) -> State
 }
 
 pub fn pass(file: File, s: State, word: u32) -> Step
-    requires { ⌜ R.Counted s mostJobWords ⌝ }
+    requires { ⌜ Q.Counted s mostJobWords ⌝ }
     ensures { λ r. ⌜ r ≡ R.stepOf file s word ⌝ }
 {
     let fault = word_fault(file, s, word);

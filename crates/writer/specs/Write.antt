@@ -1,6 +1,5 @@
 -- The words of a mapping, and lent words after they are written.
-use Prim.Native.Nat.{ℕ, _+_, _^_, _<_, _≤_}
-use mathlib.Core.Bool.{Bool, true, false}
+use Prim.Native.Nat.{ℕ, _+_}
 use mathlib.Core.List.{List, [], _∷_, _++_}
 use lib.Dec.{ltb}
 use lib.ListN.{length}
@@ -8,7 +7,7 @@ use lib.Seq.{sets}
 use Rattle.words.specs.Choice.{if_then_else_}
 use Rattle.words.specs.Field.{contentOf, wordOf}
 use Rattle.words.specs.Paper.{Paper, accepted, refused}
-use Rattle.reader.specs.Kinds.{HEADER, BINDING, GLUE, mostSources}
+use Rattle.reader.specs.Kinds.{HEADER, BINDING, GLUE}
 use Rattle.writer.specs.declared.Written.{Written}
 use Rattle.writer.specs.declared.Written.the-variants.{Words, TooFew}
 
@@ -41,9 +40,3 @@ lentAfter ws lent = if ltb (length lent) (length ws) then lent else sets lent 0 
 abbrev pub paperOf : Written → Paper
 paperOf (Words n) = accepted (n ∷ [])
 paperOf (TooFew needed) = refused 23 needed
-
--- what a call asks of its caller
-pub record Writable (width glue : ℕ) (bound : List ℕ) : Type 0 where
-  pub width-fits : width ≤ 64
-  pub glue-fits : glue < 2 ^ 28
-  pub few-bound : length bound ≤ mostSources

@@ -3,6 +3,7 @@ ghost use mathlib.Core.Path.{_≡_};
 ghost use Prim.Native.Nat.{_≤_};
 ghost use lib.ListN.{length};
 ghost use Rattle.reader.specs.Kinds.{mostSources};
+ghost use Rattle.writer.specs.Asked as Q;
 ghost use Rattle.writer.specs.Write as W;
 
 // How many words were written, or refusal 23 with the words needed.
@@ -28,7 +29,7 @@ pub fn binding_word(word: u32) -> u32
 
 // Writes the mapping that binds each of these recipes.
 pub fn write_mapping(width: u32, bound: &[u32], glue: u32, lent: &mut [u32]) -> Written
-    requires { ⌜ W.Writable width glue (now bound) ⌝ }
+    requires { ⌜ Q.Writable width glue (now bound) ⌝ }
     ensures answer { λ r. ⌜ r ≡ W.writtenOf (length (now (bound .entry))) (now (lent .entry)) ⌝ }
     ensures written { λ r. ⌜ now (lent .exit) ≡ W.lentAfter (W.mappingWords width (now (bound .entry)) glue) (now (lent .entry)) ⌝ }
 {

@@ -5,7 +5,8 @@ use lib.ListN.{length, drop}
 use mathlib.Core.Path.{_≡_}
 use Rattle.reader.proofs.Turns.{turn, stop, at-end, one-more}
 use Rattle.reader.proofs.read_words.Statement.{statement}
-use Rattle.reader.specs.Reading.{Counted, reading}
+use Rattle.reader.specs.Asked.{Counted}
+use Rattle.reader.specs.Reading.{reading}
 use Rattle.reader.proofs.read_words.Tie as tie
 
 abbrev Inv-loop : tie.InvT-loop

@@ -5,7 +5,7 @@ use lib.ListN.{length, drop}
 use lib.Seq.{sets}
 use mathlib.Core.Path.{_≡_, refl}
 use native.Mathlib.Nat.{add-zero}
-use Rattle.bench.proofs.Copying.{one-copied, all-copied}
+use Rattle.words.proofs.Copies.{one-copied, all-copied}
 use Rattle.bench.proofs.places.copy.Statement.{statement}
 use Rattle.bench.proofs.places.copy.Tie as tie
 

@@ -6,21 +6,21 @@ use native.Mathlib.Omega.{arith}
 use lib.ListN.{length, drop, getD, drop-of-length-le, length-append, List·getD-append}
 use lib.Seq.{getD-append-add}
 use Rattle.words.specs.Field.{field, kindOf, contentOf}
 use Rattle.reader.specs.Kinds.{HEADER, PRICES, SOURCE, TARGET, mostSources, mostTargets}
 use Rattle.reader.specs.Reading.{nothing, after, reading}
 use Rattle.reader.specs.Job.{jobOf, rulesStart}
 use Rattle.reader.specs.declared.sequence.File.the-variants.{AsJob}
 use Rattle.reader.specs.declared.sequence.State.{State}
 use Rattle.reader.specs.declared.step.Reading.the-variants.{Passed}
 use Rattle.reader.specs.declared.Job.{Job}
 use Rattle.reader.specs.declared.JobRead.the-variants.{Accepted}
 use Rattle.reader.proofs.Steps.{first-of-kind}
 use Rattle.reader.proofs.Parts.{Entry, kind-of-laid, content-of-laid}
 use Rattle.reader.proofs.Faultless.{width-whole}
 use Rattle.reader.proofs.JobWords.{WellformedJob}
 use Rattle.reader.proofs.JobAnswers.{accepted}
 use Rattle.reader.proofs.Accepting.{passes}
-use Rattle.bench.proofs.JobParts.{Reaches, InSources, InTargets, InRules, free-header, free-prices, through-sources, through-targets, through-rules}
+use Rattle.reader.proofs.JobParts.{Reaches, InSources, InTargets, InRules, free-header, free-prices, through-sources, through-targets, through-rules}
 
 module _ (ws : List ℕ) (job : Job) (q : WellformedJob ws job) where
   -- after the header and the prices

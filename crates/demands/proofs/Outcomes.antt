@@ -1,0 +1,99 @@
+-- The ways out of the mapper: what it answers, in document 01's numbers, and the lent words afterwards.
+use mathlib.Core.Path.{_≡_, refl, ap, _∙_}
+use mathlib.Core.List.{List, [], _∷_, _++_}
+use Prim.Native.Nat.{ℕ, _≤_, _<_}
+use native.Mathlib.Decide.{decLt}
+use native.Mathlib.Omega.{arith}
+use lib.ListN.{length, drop}
+use borrow.Author.Tests.{lt-ltb, le-ltb}
+use Rattle.words.specs.Paper.{Paper, accepted, refused}
+use Rattle.reader.specs.Job.{jobOf}
+use Rattle.reader.specs.declared.Job.{Job}
+use Rattle.reader.specs.declared.JobRead.{JobRead}
+use Rattle.reader.specs.declared.JobRead.the-variants as job-read
+use Rattle.pricer.specs.Pricing.{glueOf}
+use Rattle.writer.specs.Write.{wordsNeeded, writtenOf}
+use Rattle.writer.proofs.Writing.{mapping-length, written-words, untouched}
+use Rattle.mapper.specs.Choose.{Choice, Mapped, Unmappable}
+use Rattle.mapper.specs.Mapping.{choiceOf, chosenWords, answerOf, lentOf, paperOf}
+use Rattle.demands.proofs.Chosen.{one-each}
+
+-- what comes with an acceptance does not come with a refusal
+pub accepted-apart : {Q : Type 0} (n number place : ℕ) → accepted (n ∷ []) ≡ refused number place → Q
+accepted-apart n number place e =
+    let vs : n ∷ [] ≡ [] = ap (λ (p : Paper). p .values) e in
+    let z : _≡_ {A = ℕ} 0 1 = cc in
+    absurd (omega arith)
+
+pub data Outcome (ws lent : List ℕ) : Type 0 where
+  Unread : (number place : ℕ) → jobOf ws ≡ job-read.Refused number place → paperOf (answerOf ws lent) ≡ refused number place
+      → lentOf ws lent ≡ lent → Outcome ws lent
+  Unmapped : (job : Job) (f : ℕ) → jobOf ws ≡ job-read.Accepted job → choiceOf ws job ≡ Unmappable f
+      → paperOf (answerOf ws lent) ≡ refused 12 f → lentOf ws lent ≡ lent → Outcome ws lent
+  Short : (job : Job) (bound : List ℕ) → jobOf ws ≡ job-read.Accepted job → choiceOf ws job ≡ Mapped bound
+      → length lent < wordsNeeded (job .sources) → paperOf (answerOf ws lent) ≡ refused 23 (wordsNeeded (job .sources))
+      → lentOf ws lent ≡ lent → Outcome ws lent
+  Writes : (job : Job) (bound : List ℕ) → jobOf ws ≡ job-read.Accepted job → choiceOf ws job ≡ Mapped bound
+      → wordsNeeded (job .sources) ≤ length lent → paperOf (answerOf ws lent) ≡ accepted (wordsNeeded (job .sources) ∷ [])
+      → lentOf ws lent ≡ chosenWords job bound ++ drop (wordsNeeded (job .sources)) lent → Outcome ws lent
+
+module _ (ws lent : List ℕ) where
+  of-refused : (number place : ℕ) → jobOf ws ≡ job-read.Refused number place → Outcome ws lent
+  unfolding answerOf lentOf
+  of-refused number place e = Unread number place e (rw e refl) (rw e refl)
+
+  -- where a job is read its choice decides
+  module _ (job : Job) (e : jobOf ws ≡ job-read.Accepted job) where
+    pub unmappable-answer : (f : ℕ) → choiceOf ws job ≡ Unmappable f → paperOf (answerOf ws lent) ≡ refused 12 f
+    unfolding answerOf
+    unmappable-answer f c = rw e (rw c refl)
+
+    of-unmappable : (f : ℕ) → choiceOf ws job ≡ Unmappable f → Outcome ws lent
+    unfolding lentOf
+    of-unmappable f c = Unmapped job f e c (unmappable-answer f c) (rw e (rw c refl))
+
+    module _ (bound : List ℕ) (c : choiceOf ws job ≡ Mapped bound) where
+      one : length bound ≡ job .sources
+      one = one-each ws job e bound c
+
+      words-needed : length (chosenWords job bound) ≡ wordsNeeded (job .sources)
+      words-needed = mapping-length (job .width) (glueOf job bound) bound ∙ ap wordsNeeded one
+
+      of-short : length lent < wordsNeeded (job .sources) → Outcome ws lent
+      unfolding answerOf lentOf writtenOf
+      of-short h =
+          Short job bound e c h (rw e (rw c (rw one (rw (lt-ltb (length lent) (wordsNeeded (job .sources)) h) refl))))
+          (rw e (rw c (untouched (chosenWords job bound) lent (omega (arith, words-needed)))))
+
+      pub mapped-writes : wordsNeeded (job .sources) ≤ length lent
+          → (paperOf (answerOf ws lent) ≡ accepted (wordsNeeded (job .sources) ∷ []))
+          × (lentOf ws lent ≡ chosenWords job bound ++ drop (wordsNeeded (job .sources)) lent)
+      unfolding answerOf lentOf writtenOf
+      mapped-writes h = (
+        rw e (rw c (rw one (rw (le-ltb (length lent) (wordsNeeded (job .sources)) h) refl))),
+        rw e
+            (rw c
+            (written-words (chosenWords job bound) lent (omega (arith, words-needed))
+            ∙ ap (λ (x : ℕ). chosenWords job bound ++ drop x lent) words-needed)),
+      )
+
+      of-mapped : Outcome ws lent
+      of-mapped =
+          elim (decLt (length lent) (wordsNeeded (job .sources))) [
+            | yes l ↦ of-short l
+            | no l ↦
+                let h : wordsNeeded (job .sources) ≤ length lent = omega arith in
+                let w = mapped-writes h in
+                Writes job bound e c h (w .0) (w .1)
+          ]
+
+    of-job : (c : Choice) → choiceOf ws job ≡ c → Outcome ws lent
+    of-job (Mapped bound) c = of-mapped bound c
+    of-job (Unmappable f) c = of-unmappable f c
+
+  of-read : (r : JobRead) → jobOf ws ≡ r → Outcome ws lent
+  of-read (job-read.Accepted job) e = of-job job e (choiceOf ws job) refl
+  of-read (job-read.Refused number place) e = of-refused number place e
+
+  pub outcome : Outcome ws lent
+  outcome = of-read (jobOf ws) refl
