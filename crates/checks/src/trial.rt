@@ -2,69 +2,12 @@
 // at random ones.
 use crate::files::content;
 use crate::files::kind;
-use crate::numbers::digit;
 use crate::numbers::next;
 use crate::numbers::wide;
-ghost use Prim.Native.Nat.{_≤_};
-
-// The word of n ones.
-fn ones(n: u32) -> u64 {
-    if n == 0 {
-        return 0;
-    }
-    if n > 63 {
-        return 0xffff_ffff_ffff_ffff;
-    }
-    0xffff_ffff_ffff_ffffu64 >> (64 - n)
-}
-
-fn agrees(word: u32, n: u32, left: u64, right: u64, carry: u32) -> bool {
-    reference::first_difference(word, n, left, right, carry) == 4
-}
-
-// All operands of n bits in turn: the bits of a number are the left one's, the right one's and the carry.
-fn agrees_at_all(word: u32, n: u32) -> bool
-    requires { ⌜ n ≤ 3 ⌝ }
-{
-    let end = 2u64 << (2 * n);
-    let mut i: u64 = 0;
-    while i < end {
-        let carry = digit((i >> (2 * n)) % 2 == 1);
-        if !agrees(word, n, i & ones(n), (i >> n) & ones(n), carry) {
-            return false;
-        }
-        i += 1;
-    }
-    true
-}
-
-// Where sums wrap, signs change and bits alternate.
-fn corner(n: u32, k: u32) -> u64 {
-    let all = ones(n);
-    match k {
-        0 => 0,
-        1 => 1,
-        2 => all / 2,
-        3 => all ^ (all / 2),
-        4 => all,
-        _ => 0x5555_5555_5555_5555 & all,
-    }
-}
-
-fn agrees_at_corners(word: u32, n: u32) -> bool {
-    let mut i = 0;
-    while i < 72 {
-        if !agrees(word, n, corner(n, i % 6), corner(n, i / 6 % 6), i / 36) {
-            return false;
-        }
-        i += 1;
-    }
-    true
-}
 
 // A right operand that is random, equals the left one or differs from it in the lowest bit or in the top one.
 fn beside(n: u32, left: u64, random: u64) -> u64 {
-    let all = ones(n);
+    let all = reference::ones(n);
     match random % 8 {
         0 => left,
         1 => left ^ (all & 1),
@@ -77,9 +20,9 @@ fn agrees_at_random(word: u32, n: u32) -> bool {
     let mut x = next(wide(word) ^ (wide(n) << 40));
     let mut i: u32 = 0;
     while i < 60 {
-        let left = x & ones(n);
+        let left = x & reference::ones(n);
         let other = next(x);
-        if !agrees(word, n, left, beside(n, left, other), (other >> 63) as u32) {
+        if !reference::agrees(word, n, left, beside(n, left, other), (other >> 63) as u32) {
             return false;
         }
         x = next(next(other));
@@ -93,9 +36,9 @@ fn is_found_wrong(word: u32, n: u32) -> bool {
         return false;
     }
     if n <= 3 {
-        return !agrees_at_all(word, n);
+        return !reference::agrees_at_all(word, n);
     }
-    !agrees_at_corners(word, n) | !agrees_at_random(word, n)
+    !reference::agrees_at_corners(word, n) | !agrees_at_random(word, n)
 }
 
 // The lowest function whose binding is found wrong, or 0.

@@ -8,6 +8,7 @@ mod logic;
 mod places;
 mod recipe;
 mod refusal;
+mod trial;
 
 use arithmetic::arithmetic;
 use comparison::comparison;
@@ -19,6 +20,10 @@ pub use recipe::first_difference;
 pub use recipe::recipe_shows;
 pub use refusal::Refusal;
 pub use refusal::refusal_of;
+pub use trial::agrees;
+pub use trial::agrees_at_all;
+pub use trial::agrees_at_corners;
+pub use trial::ones;
 ghost use Prim.Native.Nat.{_≤_};
 
 // What a function shows, as numbers.

@@ -1,8 +1,8 @@
--- `checks::trial::agrees_at_corners` meets its contract.
-use Prim.Native.Nat.{_-_, _≤_}
+-- `reference::trial::agrees_at_corners` meets its contract.
+use Prim.Native.Nat.{_≤_, _-_}
 use borrow.Author.Needs.{needs}
-use Rattle.checks.proofs.trial.agrees_at_corners.Statement.{statement}
-use Rattle.checks.proofs.trial.agrees_at_corners.Tie as tie
+use Rattle.reference.proofs.trial.agrees_at_corners.Statement.{statement}
+use Rattle.reference.proofs.trial.agrees_at_corners.Tie as tie
 
 abbrev Inv-loop : tie.InvT-loop
 Inv-loop word n i₀ i = i ≤ 72

@@ -1,8 +1,8 @@
--- `checks::trial::agrees_at_all` meets its contract.
+-- `reference::trial::agrees_at_all` meets its contract.
 use Prim.Native.Nat.{_≤_, _-_}
 use borrow.Author.Needs.{needs}
-use Rattle.checks.proofs.trial.agrees_at_all.Statement.{statement}
-use Rattle.checks.proofs.trial.agrees_at_all.Tie as tie
+use Rattle.reference.proofs.trial.agrees_at_all.Statement.{statement}
+use Rattle.reference.proofs.trial.agrees_at_all.Tie as tie
 
 abbrev Inv-loop : tie.InvT-loop
 Inv-loop word n end i₀ i = i ≤ end

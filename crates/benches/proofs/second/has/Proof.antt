@@ -1,0 +1,50 @@
+-- `benches::second::has` meets its contract.
+use Prim.Native.Nat.{_≤_, _-_}
+use borrow.Author.Needs.{needs}
+use Rattle.benches.proofs.second.has.Statement.{statement}
+use Rattle.benches.proofs.second.has.Tie as tie
+
+abbrev Inv-loop : tie.InvT-loop
+Inv-loop word table place₀ place = place ≤ 27
+
+abbrev μ-loop : tie.MeasureT-loop
+μ-loop word table place₀ place = 27 - place
+
+loop-holds : tie.Need-loop-holds Inv-loop μ-loop
+loop-holds c = search needs
+
+slice-aggregate-at : tie.Need-slice-aggregate-at Inv-loop μ-loop
+slice-aggregate-at c = search needs
+
+at-requires : tie.Need-at-requires Inv-loop μ-loop
+at-requires c κs = search needs
+
+returns : tie.Need-returns Inv-loop μ-loop
+returns c = search needs
+
+add-place : tie.Need-add-place Inv-loop μ-loop
+add-place c = search needs
+
+loop-less : tie.Need-loop-less Inv-loop μ-loop
+loop-less c = search needs
+
+loop-again : tie.Need-loop-again Inv-loop μ-loop
+loop-again c = search needs
+
+returns-2 : tie.Need-returns-2 Inv-loop μ-loop
+returns-2 c = search needs
+
+pub has-spec : {M : Type 1} → statement M
+has-spec =
+    tie.close
+    (tie.spec
+    Inv-loop
+    μ-loop
+    loop-holds
+    slice-aggregate-at
+    at-requires
+    returns
+    add-place
+    loop-less
+    loop-again
+    returns-2)
