@@ -1,0 +1,50 @@
+-- Parts of slices, and bytes kept as far as there is room.
+use mathlib.Core.Path.{_≡_, refl, sym}
+use mathlib.Core.Bool.{Bool, false}
+use mathlib.Core.List.{List}
+use Prim.Native.Nat.{ℕ, _+_, _-_, _/_, _^_, _≤_, _<_}
+use native.Mathlib.Omega.{arith}
+use lib.Dec.{eqb}
+use lib.ListN.{length, take}
+use lib.Seq.{sets, length-take-le, take-all}
+use borrow.Author.Tests.{eqb-false}
+use Rattle.text.specs.Text.{Puts}
+
+pub start-length : (l : List ℕ) (n : ℕ) → n ≤ length l → n ≡ length (take n l)
+start-length l n h = sym (length-take-le n l h)
+
+pub part-length : (l : List ℕ) (n : ℕ) → n < length l → n ≡ length (take n l)
+part-length l n h = start-length l n (omega arith)
+
+module _ (chunk kept : List ℕ) (at : ℕ) where
+  pub no-room : length kept ≤ at → kept ≡ sets kept at (take (length kept - at) chunk)
+  no-room h = let z : length kept - at ≡ 0 = omega arith in rw z refl
+
+  pub all-kept : (end : ℕ) (after : List ℕ) → length chunk ≤ length kept - at → Puts kept at chunk after end
+      → after ≡ sets kept at (take (length kept - at) chunk)
+  all-kept end after h p = rw (take-all (length kept - at) chunk h) (p .put)
+
+  pub room-fits : (at < length kept) → length kept - at < length chunk → at + length (take (length kept - at) chunk) ≤ length kept
+  room-fits h l = omega (arith, part-length chunk (length kept - at) l)
+
+  pub some-kept : (end : ℕ) (after : List ℕ) → Puts kept at (take (length kept - at) chunk) after end
+      → after ≡ sets kept at (take (length kept - at) chunk)
+  some-kept end after p = p .put
+
+pub goes-on : (at n : ℕ) → eqb n 0 ≡ false → at < at + n
+goes-on at n e = let z = eqb-false n 0 e in omega arith
+
+pub falls : (at next : ℕ) (ended : Bool) → at < 2 ^ 62 → (ended ≡ false → at < next) → ended ≡ false → 2 ^ 62 - next < 2 ^ 62 - at
+falls at next ended h f e = omega (arith, f e)
+
+-- ---- the start of an array
+
+pub array-start : (n size : ℕ) (l : List ℕ) → n ≤ size → length l ≡ size → n ≡ length (take n l)
+array-start n size l h e = start-length l n (omega arith)
+
+module _ (n : ℕ) (bytes : List ℕ) (h : n ≤ 2276) (e : length bytes ≡ 2276) where
+  pub words-fit : (words : List ℕ) → 569 ≤ length words → length (take n bytes) / 4 ≤ length words
+  words-fit words w = omega (arith, array-start n 2276 bytes h e)
+
+  pub words-kept : (k : ℕ) → k ≡ length (take n bytes) / 4 → k ≤ 569
+  words-kept k w = omega (arith, array-start n 2276 bytes h e)

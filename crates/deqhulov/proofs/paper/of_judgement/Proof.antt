@@ -1,0 +1,37 @@
+-- `deqhulov::paper::of_judgement` meets its contract.
+use borrow.Author.Needs.{needs}
+use Rattle.deqhulov.proofs.paper.of_judgement.Statement.{statement}
+use Rattle.deqhulov.proofs.paper.of_judgement.Tie as tie
+
+enum-known-judgement : tie.Need-enum-known-judgement
+enum-known-judgement c = search needs
+
+of-verdict-requires : tie.Need-of-verdict-requires
+of-verdict-requires c κs = search needs
+
+enum-known-judgement-2 : tie.Need-enum-known-judgement-2
+enum-known-judgement-2 c = search needs
+
+cast-refusal : tie.Need-cast-refusal
+cast-refusal c = search needs
+
+refusal-requires : tie.Need-refusal-requires
+refusal-requires c κs = search needs
+
+returns : tie.Need-returns
+returns c = rw (c .before .before .judgement .given .1) (c .of-verdict .ensures)
+
+returns-2 : tie.Need-returns-2
+returns-2 c = rw (c .before .before .judgement2 .given .1) (c .refusal .ensures)
+
+pub of-judgement-spec : {M : Type 1} → statement M
+of-judgement-spec =
+    tie.close
+    (tie.spec
+    enum-known-judgement
+    of-verdict-requires
+    enum-known-judgement-2
+    cast-refusal
+    refusal-requires
+    returns
+    returns-2)

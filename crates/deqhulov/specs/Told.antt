@@ -1,0 +1,38 @@
+-- What the exported calls tell their caller: an answer in document 01's numbers.
+-- "For an answer that is an enum, a definition gives this paper's number and values for each case of the enum. The promises use that
+-- definition": each crate's paperOf.
+use Prim.Native.Nat.{ℕ}
+use mathlib.Core.Path.{_≡_}
+use mathlib.Core.List.{List}
+use lib.ListN.{take}
+use Rattle.words.specs.Paper.{Paper}
+use Rattle.equivalence.specs.Verdicts.{Judged, judgementPaper}
+use Rattle.equivalence.specs.declared.Judgement.{Judgement}
+use Rattle.writer.specs.Write.{lentAfter}
+use Rattle.checker.specs.Check.{Checks}
+use Rattle.checker.specs.Check as checker
+use Rattle.checker.specs.declared.Checked.{Checked}
+use Rattle.deqhulov.specs.declared.paper.Report.{Report}
+
+-- a report's number, place and values
+abbrev pub paper : Report → Paper
+paper r = record { number = r .number; place = r .place; values = take (r .count) (r .values) }
+
+-- The number is what a call returns, the place what it stores; the values stand at the start of the words lent for them, which are
+-- left as they were where they are too few.
+pub record Told (p : Paper) (number place : ℕ) (lent after : List ℕ) : Type 0 where
+  pub says-number : number ≡ p .number
+  pub says-place : place ≡ p .place
+  pub says-values : after ≡ lentAfter (p .values) lent
+
+-- the checker's answer to a job and a mapping is told
+pub record TellsCheck (job mapping : List ℕ) (number place : ℕ) (lent after : List ℕ) : Type 0 where
+  pub answer : Checked
+  pub checks : Checks job mapping answer
+  pub told : Told (checker.paperOf answer) number place lent after
+
+-- the judgement on a recipe word at a width is told
+pub record TellsJudgement (word width number place : ℕ) (lent after : List ℕ) : Type 0 where
+  pub answer : Judgement
+  pub judged : Judged word width answer
+  pub told : Told (judgementPaper answer) number place lent after

@@ -1,0 +1,138 @@
+// Words written as eight hexadecimal digits, parted by spaces or line feeds, on standard input; their bytes on standard output.
+use libc::STDERR_FILENO;
+use libc::STDIN_FILENO;
+use libc::STDOUT_FILENO;
+use text::hex::Hex;
+use text::hex::Step;
+ghost use mathlib.Core.Path.{_≡_};
+ghost use mathlib.Core.Bool.{false};
+ghost use Prim.Native.Nat.{_+_, _≤_, _<_, _^_};
+ghost use lib.ListN.{length};
+
+// The word being read, how many bytes came before, and whether the text has ended or a byte could not stand where it was.
+struct Progress {
+    hex: Hex,
+    bytes: usize,
+    ended: bool,
+}
+
+fn write_word(word: u32) {
+    let bytes = files::bytes_of(word);
+    io::write_all(STDOUT_FILENO, &bytes);
+}
+
+// Says at which byte the text is wrong.
+fn complain(place: usize) {
+    io::write_all(STDERR_FILENO, b"pack_words: byte ");
+    io::print_decimal(STDERR_FILENO, place as u64);
+    io::write_all(
+        STDERR_FILENO,
+        b": words are eight hexadecimal digits, parted by spaces or line feeds\n",
+    );
+}
+
+// Takes one byte, and writes the word that it ends.
+fn next(hex: Hex, byte: u8, place: usize) -> Progress
+    requires { ⌜ place < 2 ^ 62 ⌝ }
+    ensures { λ r. ⌜ (r .ended ≡ false → r .bytes ≡ place + 1) ⌝ }
+{
+    let step = text::hex::taken(hex, byte);
+    match step {
+        Step::More(more) => Progress {
+            hex: more,
+            bytes: place + 1,
+            ended: false,
+        },
+        Step::Word(word) => {
+            write_word(word);
+            Progress {
+                hex: text::hex::none(),
+                bytes: place + 1,
+                ended: false,
+            }
+        }
+        Step::Bad => {
+            complain(place);
+            Progress {
+                hex,
+                bytes: place,
+                ended: true,
+            }
+        }
+    }
+}
+
+// Takes the bytes of a chunk.
+fn take_all(hex: Hex, chunk: &[u8], place: usize) -> Progress
+    requires { ⌜ place + length (now chunk) ≤ 2 ^ 62 ⌝ }
+    ensures { λ r. ⌜ (r .ended ≡ false → r .bytes ≡ place + length (now (chunk .entry))) ⌝ }
+{
+    let mut now = hex;
+    let mut i = 0;
+    while i < chunk.len() {
+        let progress = next(now, chunk[i], place + i);
+        if progress.ended {
+            return progress;
+        }
+        now = progress.hex;
+        i += 1;
+    }
+    Progress {
+        hex: now,
+        bytes: place + i,
+        ended: false,
+    }
+}
+
+// The end of the text: a last word may stand there without a gap behind it.
+fn finish(hex: Hex, place: usize) {
+    let step = text::hex::ended(hex);
+    match step {
+        Step::More(_) => {}
+        Step::Word(word) => write_word(word),
+        Step::Bad => complain(place),
+    }
+}
+
+// Reads once, and takes what came.
+fn take_some(hex: Hex, place: usize) -> Progress
+    requires { ⌜ place < 2 ^ 61 ⌝ }
+    ensures { λ r. ⌜ (r .ended ≡ false → place < r .bytes) ⌝ }
+{
+    let mut chunk = [0u8; 4096];
+    let got = libc::read(STDIN_FILENO, &mut chunk);
+    if got < 0 {
+        os::fail(b"standard input");
+        return Progress {
+            hex,
+            bytes: place,
+            ended: true,
+        };
+    }
+    let n = io::count(got, &chunk);
+    if n == 0 {
+        finish(hex, place);
+        return Progress {
+            hex,
+            bytes: place,
+            ended: true,
+        };
+    }
+    take_all(hex, &chunk[..n], place)
+}
+
+// More bytes than a text has.
+const MOST: usize = 2305843009213693952;
+
+fn main() {
+    let mut now = text::hex::none();
+    let mut bytes = 0;
+    while bytes < MOST {
+        let progress = take_some(now, bytes);
+        if progress.ended {
+            break;
+        }
+        now = progress.hex;
+        bytes = progress.bytes;
+    }
+}

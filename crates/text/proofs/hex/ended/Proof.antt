@@ -1,0 +1,24 @@
+-- `text::hex::ended` meets its contract.
+use Rattle.text.specs.Hex.{ended}
+use Rattle.words.proofs.Choices.{decide}
+use borrow.Author.Needs.{needs}
+use Rattle.text.proofs.hex.ended.Statement.{statement}
+use Rattle.text.proofs.hex.ended.Tie as tie
+
+none-requires : tie.Need-none-requires
+none-requires c κs = search needs
+
+returns : tie.Need-returns
+unfolding ended
+returns c = search decide
+
+returns-2 : tie.Need-returns-2
+unfolding ended
+returns-2 c = search decide
+
+returns-3 : tie.Need-returns-3
+unfolding ended
+returns-3 c = search decide
+
+pub ended-spec : {M : Type 1} → statement M
+ended-spec = tie.close (tie.spec none-requires returns returns-2 returns-3)

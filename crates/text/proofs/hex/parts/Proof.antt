@@ -1,0 +1,16 @@
+-- `text::hex::parts` meets its contract.
+use Rattle.text.specs.Hex.{parts}
+use Rattle.words.proofs.Choices.{decide}
+use Rattle.text.proofs.hex.parts.Statement.{statement}
+use Rattle.text.proofs.hex.parts.Tie as tie
+
+returns : tie.Need-returns
+unfolding parts
+returns c = search decide
+
+returns-2 : tie.Need-returns-2
+unfolding parts
+returns-2 c = search decide
+
+pub parts-spec : {M : Type 1} → statement M
+parts-spec = tie.close (tie.spec returns returns-2)
