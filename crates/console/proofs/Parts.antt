@@ -1,13 +1,14 @@
 -- Parts of slices, and bytes kept as far as there is room.
-use mathlib.Core.Path.{_≡_, refl, sym}
-use mathlib.Core.Bool.{Bool, false}
+use mathlib.Core.Path.{_≡_, refl, sym, ap, _∙_}
+use mathlib.Core.Bool.{false}
 use mathlib.Core.List.{List}
-use Prim.Native.Nat.{ℕ, _+_, _-_, _/_, _^_, _≤_, _<_}
+use Prim.Native.Nat.{ℕ, _+_, _-_, _/_, _≤_, _<_}
 use native.Mathlib.Omega.{arith}
-use lib.Dec.{eqb}
+use lib.Dec.{eqb, ltb}
 use lib.ListN.{length, take}
 use lib.Seq.{sets, length-take-le, take-all}
 use borrow.Author.Tests.{eqb-false}
+use Rattle.words.specs.Choice.{if_then_else_}
 use Rattle.text.specs.Text.{Puts}
 
 pub start-length : (l : List ℕ) (n : ℕ) → n ≤ length l → n ≡ length (take n l)
@@ -34,9 +35,6 @@ module _ (chunk kept : List ℕ) (at : ℕ) where
 pub goes-on : (at n : ℕ) → eqb n 0 ≡ false → at < at + n
 goes-on at n e = let z = eqb-false n 0 e in omega arith
 
-pub falls : (at next : ℕ) (ended : Bool) → at < 2 ^ 62 → (ended ≡ false → at < next) → ended ≡ false → 2 ^ 62 - next < 2 ^ 62 - at
-falls at next ended h f e = omega (arith, f e)
-
 -- ---- the start of an array
 
 pub array-start : (n size : ℕ) (l : List ℕ) → n ≤ size → length l ≡ size → n ≡ length (take n l)
@@ -48,3 +46,7 @@ module _ (n : ℕ) (bytes : List ℕ) (h : n ≤ 2276) (e : length bytes ≡ 227
 
   pub words-kept : (k : ℕ) → k ≡ length (take n bytes) / 4 → k ≤ 569
   words-kept k w = omega (arith, array-start n 2276 bytes h e)
+
+  pub kept-words : (size k : ℕ) → n ≡ (if ltb size 2276 then size else 2276) → k ≡ length (take n bytes) / 4
+      → k ≡ (if ltb size 2276 then size else 2276) / 4
+  kept-words size k m w = w ∙ ap (λ (x : ℕ). x / 4) (sym (array-start n 2276 bytes h e) ∙ m)

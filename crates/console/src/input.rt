@@ -6,6 +6,7 @@ ghost use lib.Dec.{ltb};
 ghost use lib.ListN.{length, take};
 ghost use lib.Seq.{sets};
 ghost use Rattle.words.specs.Choice.{if_then_else_};
+ghost use Rattle.console.specs.Read as R;
 
 // The bytes of 569 words: a job has at most 568.
 const KEPT: usize = 2276;
@@ -94,7 +95,8 @@ fn read_bytes(fd: i32, kept: &mut [u8]) -> Progress {
 // Reads words from a file descriptor.
 pub fn read_words(fd: i32, words: &mut [u32]) -> Input
     requires { ⌜ 569 ≤ length (now words) ⌝ }
-    ensures { λ r. ⌜ r .kept ≤ 569 ⌝ }
+    ensures few { λ r. ⌜ r .kept ≤ 569 ⌝ }
+    ensures read { λ r. ⌜ R.Read r ⌝ }
 {
     let mut bytes = [0u8; KEPT];
     let read = read_bytes(fd, &mut bytes);

@@ -1,1 +1,1 @@
-pub mod Falling
+pub mod Bringing

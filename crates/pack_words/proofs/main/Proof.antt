@@ -1,6 +1,6 @@
 -- `pack_words::main` meets its contract.
 use Prim.Native.Nat.{_-_, _^_, _≤_}
-use Rattle.pack_words.proofs.Falling.{falls}
+use Rattle.files.proofs.Falling.{falls}
 use Rattle.text.specs.Text.{bytes}
 use borrow.Author.Needs.{needs}
 use Rattle.pack_words.proofs.main.Statement.{statement}

@@ -1,5 +1,5 @@
 -- `pack_words::take_some` meets its contract.
-use Rattle.pack_words.proofs.Falling.{brings}
+use Rattle.pack_words.proofs.Bringing.{brings}
 use mathlib.Core.Bool.{true≢false}
 use borrow.Author.Needs.{needs}
 use Rattle.pack_words.proofs.take_some.Statement.{statement}

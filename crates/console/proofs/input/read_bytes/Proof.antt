@@ -1,5 +1,5 @@
 -- `console::input::read_bytes` meets its contract.
-use Rattle.console.proofs.Parts.{falls}
+use Rattle.files.proofs.Falling.{falls}
 use Prim.Native.Nat.{_-_, _^_}
 use Rattle.text.specs.Text.{bytes}
 use borrow.Author.Needs.{needs}
