@@ -10,18 +10,19 @@ use lib.ListN.{getD, List·getD-eq-default}
 use lib.Pow.{pow-pos}
 use borrow.Author.Tests.{lt-ltb, le-ltb, le-leb, lt-leb, leb-true, leb-false, ltb-true, ltb-false, not-true, not-false}
 use Rattle.words.specs.Choice.{if_then_else_}
+use Rattle.words.specs.Paper.{refusal}
 use Rattle.words.proofs.Choices.{either}
 use Rattle.words.proofs.Lists.{getD-within}
 use Rattle.alu.specs.Bits.{num, bit}
 use Rattle.alu.specs.Wiring.{wired, carried}
 use Rattle.alu.specs.Function.{functions, functionOf, sum, minterm, logicWord, compared, ports}
-use Rattle.alu.specs.Evaluate.{isFunction, isWidth, firstOutOfRange, evaluation}
+use Rattle.alu.specs.Evaluate.{isFunction, isWidth, firstOutOfRange, inRange, evaluation}
 use Rattle.alu.specs.Asked.{Width, Operands}
 use Rattle.alu.specs.declared.Ports.{Ports}
 use Rattle.alu.specs.declared.Kind.{Kind}
 use Rattle.alu.specs.declared.Kind.the-variants.{Arithmetic, Logic, Comparison}
 use Rattle.alu.specs.declared.Evaluation.{Evaluation}
-use Rattle.alu.specs.declared.Evaluation.the-variants.{Shown, OutOfRange}
+use Rattle.alu.specs.declared.Evaluation.the-variants.{Shown, Refused}
 use Rattle.alu.proofs.Words.{word-lt}
 
 -- ---- the table of functions
@@ -105,17 +106,15 @@ module _ (f n l r c : ℕ) (p : Bool) (ep : p ≡ isFunction f) where
 pub in-range : (f n l r c k : ℕ) → k ≡ firstOutOfRange f n l r c → 5 ≤ k → Operands n l r
 unfolding firstOutOfRange
 in-range f n l r c k e h =
-    either (λ z. z ≡ k → Operands n l r) (isFunction f)
-    (λ _. either (λ z. z ≡ k → Operands n l r) (isWidth n)
-    (λ w. let g = width-of n w in
+    either (λ z. z ≡ k → Operands n l r) (not (isFunction f)) (λ _ u. absurd (omega arith))
+    (λ _. either (λ z. z ≡ k → Operands n l r) (not (isWidth n)) (λ _ u. absurd (omega arith))
+    (λ w. let g = width-of n (not-false (isWidth n) w) in
     either (λ z. z ≡ k → Operands n l r) (leb (2 ^ n) l) (λ _ u. absurd (omega arith))
     (λ a. either (λ z. z ≡ k → Operands n l r) (leb (2 ^ n) r) (λ _ u. absurd (omega arith))
-    (λ b _. record { least = g .least; most = g .most; left-fits = leb-false (2 ^ n) l a; right-fits = leb-false (2 ^ n) r b })))
-    (λ _ u. absurd (omega arith)))
-    (λ _ u. absurd (omega arith)) (sym e)
+    (λ b _. record { least = g .least; most = g .most; left-fits = leb-false (2 ^ n) l a; right-fits = leb-false (2 ^ n) r b })))) (sym e)
 
 module _ (f n l r c k : ℕ) (e : k ≡ firstOutOfRange f n l r c) where
-  pub out-of-range : k < 5 → OutOfRange k ≡ evaluation f n l r c
+  pub out-of-range : k < 5 → Refused (refusal 3 k) ≡ evaluation f n l r c
   unfolding evaluation
   out-of-range h = rw (← e) (rw (lt-ltb k 5 h) refl)
 

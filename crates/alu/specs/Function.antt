@@ -8,23 +8,27 @@ use lib.IntN.{ℤ, pos, negℤ, subℕ, _+ℤ_}
 use lib.Signed.{ltZ, leZ}
 use Rattle.words.specs.Choice.{if_then_else_}
 use Rattle.alu.specs.Bits.{num, bit, top, word}
-use Rattle.alu.specs.Wiring.{wired, carried, zeros, ones, I0, NOT-I0, I1, NOT-I1, ICIN}
+use Rattle.alu.specs.Wiring.{wired, carried, zeros, ones, I0, NOT-I0, I1, NOT-I1, carry-zero, carry-one, ICIN}
 use Rattle.alu.specs.declared.Ports.{Ports}
 use Rattle.alu.specs.declared.PortSet.{PortSet}
 use Rattle.alu.specs.declared.Kind.{Kind}
 use Rattle.alu.specs.declared.Kind.the-variants.{Arithmetic, Logic, Comparison}
+
+-- the number of no function
+abbrev pub noFunction : ℕ
+noFunction = 0
 
 -- The three kinds of function. Arithmetic: the two words and the bit that are added. Logic: the vector. Comparison: what is
 -- shown where I0 is less than I1, where they are equal, and where I0 is greater.
 -- "LIMPL and RIMPL, whose rows are exchanged [in Table 4]: Table 2 decides, LIMPL 1101, RIMPL 1011."
 abbrev pub functions : List Kind
 functions =
-    Logic 0  -- 0 is no function
+    Logic 0  -- noFunction
     ∷ Arithmetic I0 I1 ICIN  -- 1 ADD
     ∷ Arithmetic I0 NOT-I1 ICIN  -- 2 SUB
     ∷ Arithmetic NOT-I0 I1 ICIN  -- 3 RSUB
-    ∷ Arithmetic I0 zeros 1  -- 4 INC
-    ∷ Arithmetic I0 ones 0  -- 5 DEC
+    ∷ Arithmetic I0 zeros carry-one  -- 4 INC
+    ∷ Arithmetic I0 ones carry-zero  -- 5 DEC
     ∷ Logic 0b0000  -- 6 ZERO
     ∷ Logic 0b1111  -- 7 ONE
     ∷ Logic 0b0001  -- 8 AND

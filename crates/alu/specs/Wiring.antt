@@ -38,5 +38,15 @@ I1 = 4
 abbrev pub NOT-I1 : ℕ
 NOT-I1 = 5
 
+-- and of the carry: "carry in (0, 1, 2 SICIN, 3 NOT SICIN)"
+abbrev pub carry-zero : ℕ
+carry-zero = 0
+
+abbrev pub carry-one : ℕ
+carry-one = 1
+
 abbrev pub ICIN : ℕ
 ICIN = 2
+
+abbrev pub NOT-ICIN : ℕ
+NOT-ICIN = 3

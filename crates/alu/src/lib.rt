@@ -4,14 +4,15 @@ mod logic;
 mod order;
 mod wiring;
 
-pub use adder::sum;
-pub use logic::logic_word;
-pub use order::compared;
+use adder::sum;
+use logic::logic_word;
+use order::compared;
 pub use wiring::carried;
 pub use wiring::complement;
 pub use wiring::ones;
 pub use wiring::top;
 pub use wiring::wired;
+use words::Refusal;
 ghost use mathlib.Core.Path.{_≡_};
 ghost use Rattle.alu.specs.Function as F;
 ghost use Rattle.alu.specs.Evaluate as E;
@@ -21,6 +22,28 @@ ghost use Rattle.alu.specs.Asked as Q;
 pub const FUNCTIONS: u32 = 27;
 
 pub const WIDEST: u32 = 64;
+
+// The number of no function.
+pub const NO_FUNCTION: u32 = 0;
+
+// The codes of wirings and of the carry, as the functions choose what they add. Codes 2j and 2j + 1 are complements.
+pub const ZEROS: u32 = 0;
+
+pub const ONES: u32 = 1;
+
+pub const I0: u32 = 2;
+
+pub const NOT_I0: u32 = 3;
+
+pub const I1: u32 = 4;
+
+pub const NOT_I1: u32 = 5;
+
+pub const CARRY_ZERO: u32 = 0;
+
+pub const CARRY_ONE: u32 = 1;
+
+pub const ICIN: u32 = 2;
 
 // What a function shows: O0, OCOUT, OVF and O1. An undriven port shows 0.
 pub struct Ports {
@@ -57,8 +80,11 @@ pub enum Kind {
 // The evaluator's answer: the ports, or refusal 3 with the place, 0 to 4, of the first value out of range.
 pub enum Evaluation {
     Shown(Ports),
-    OutOfRange(u32),
+    Refused(Refusal),
 }
+
+// Every value is in range.
+const IN_RANGE: usize = 5;
 
 pub fn is_function(number: u32) -> bool
     ensures { λ r. ⌜ r ≡ E.isFunction number ⌝ }
@@ -88,29 +114,29 @@ pub fn function_of(number: u32) -> Kind
     let functions = [
         Kind::Logic(0),
         Kind::Arithmetic {
-            left: 2,
-            right: 4,
-            carry: 2,
+            left: I0,
+            right: I1,
+            carry: ICIN,
         },
         Kind::Arithmetic {
-            left: 2,
-            right: 5,
-            carry: 2,
+            left: I0,
+            right: NOT_I1,
+            carry: ICIN,
         },
         Kind::Arithmetic {
-            left: 3,
-            right: 4,
-            carry: 2,
+            left: NOT_I0,
+            right: I1,
+            carry: ICIN,
         },
         Kind::Arithmetic {
-            left: 2,
-            right: 0,
-            carry: 1,
+            left: I0,
+            right: ZEROS,
+            carry: CARRY_ONE,
         },
         Kind::Arithmetic {
-            left: 2,
-            right: 1,
-            carry: 0,
+            left: I0,
+            right: ONES,
+            carry: CARRY_ZERO,
         },
         Kind::Logic(0b0000),
         Kind::Logic(0b1111),
@@ -231,8 +257,8 @@ pub fn ports_of(kind: Kind, n: u32, left: u64, right: u64, carry: bool) -> Ports
     }
 }
 
-// The place of the first value out of range, or 5.
-fn first_out_of_range(function: u32, width: u32, left: u64, right: u64, carry: u32) -> u32
+// The place of the first value out of range, or IN_RANGE.
+fn first_out_of_range(function: u32, width: u32, left: u64, right: u64, carry: u32) -> usize
     ensures { λ r. ⌜ r ≡ E.firstOutOfRange function width left right carry ⌝ }
 {
     if !is_function(function) {
@@ -250,7 +276,7 @@ fn first_out_of_range(function: u32, width: u32, left: u64, right: u64, carry: u
     if 1 < carry {
         return 4;
     }
-    5
+    IN_RANGE
 }
 
 // The ports of a function at a width, two operands and a carry.
@@ -258,8 +284,8 @@ pub fn evaluate(function: u32, width: u32, left: u64, right: u64, carry: u32) ->
     ensures { λ r. ⌜ r ≡ E.evaluation function width left right carry ⌝ }
 {
     let place = first_out_of_range(function, width, left, right, carry);
-    if place < 5 {
-        return Evaluation::OutOfRange(place);
+    if place < IN_RANGE {
+        return Evaluation::Refused(Refusal { number: 3, place });
     }
     Evaluation::Shown(ports_of(function_of(function), width, left, right, carry == 1))
 }

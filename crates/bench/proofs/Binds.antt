@@ -1,62 +1,49 @@
 -- The ways out of a bind.
 use mathlib.Core.Path.{_≡_, refl, sym, ap, subst, _∙_}
-use mathlib.Core.Bool.{Bool, true, false, not, false≢true}
+use mathlib.Core.Bool.{Bool, true, false, not}
 use Prim.Native.Nat.{ℕ, _≤_, _<_}
 use native.Mathlib.Omega.{arith}
 use lib.Dec.{eqb}
 use lib.ListN.{length, getD}
 use borrow.Author.Tests.{eq-eqb, ne-eqb, eqb-true, eqb-false, not-true, not-false}
 use Rattle.words.specs.Choice.{if_then_else_}
+use Rattle.words.specs.Paper.{refusal}
+use Rattle.words.specs.declared.Witness.{Witness}
 use Rattle.words.proofs.Choices.{either}
-use Rattle.alu.specs.Asked.{Width}
 use Rattle.recipe.specs.Fields.{sourceOf}
-use Rattle.equivalence.specs.Verdicts.{Says}
-use Rattle.equivalence.specs.declared.Verdict.{Verdict}
-use Rattle.equivalence.specs.declared.Verdict.the-variants as verdict
-use Rattle.equivalence.proofs.Verdicting.{right-says, wrong-says}
-use Rattle.reader.specs.Kinds.{mostSources}
-use Rattle.table.specs.Table.{lists, hasTarget}
-use Rattle.bench.specs.Sound.{sourcesOn, targetsOn, ruleFault, isSound}
-use Rattle.bench.specs.Calls.{gives, inTables, placeOf, placeFor, boundAt, isTaken, bindFault, bindPlace, bindOf, Answers}
+use Rattle.verdict.specs.Verdicts.{Says}
+use Rattle.verdict.specs.declared.Verdict.{Verdict}
+use Rattle.verdict.specs.declared.Verdict.the-variants as verdict
+use Rattle.verdict.proofs.Verdicting.{right-says, wrong-says}
+use Rattle.alu.specs.Asked.{Width}
+use Rattle.reader.specs.Limits.{mostSources, mostTargets}
+use Rattle.table.proofs.Entries.{in-job-parts}
+use Rattle.soundness.specs.Sound.{sourcesOn, targetsOn, ruleFault}
+use Rattle.soundness.proofs.Soundness.{sound-width, sound-sources, sound-targets}
+use Rattle.bench.specs.Calls.{soundBench, gives, inTables, entryOf, entryFor, boundAt, isTaken, bindFault, bindPlace, claimOn, bindOf, Binds}
+use Rattle.bench.specs.Shape.{Shaped}
 use Rattle.bench.specs.declared.Bench.{Bench}
 use Rattle.bench.specs.declared.Answer.the-variants.{Done, Refused, Wrong}
-use Rattle.bench.proofs.Shapes.{Shaped, sources-few}
-use Rattle.bench.proofs.Searching.{lists-place, place-most}
-use Rattle.bench.proofs.Soundness.{sound-width, sound-sources}
+use Rattle.bench.proofs.Shapes.{sources-few}
+use Rattle.bench.proofs.Searching.{lists-entry, entry-most}
 
--- ---- 8
+-- ---- the entry
 
-module _ (b : Bench) (w f : ℕ) (ef : f ≡ sourceOf w) (p : Bool) (ep : p ≡ lists (sourcesOn b) f) where
-  by-source : p ≡ lists (sourcesOn b) (sourceOf w)
-  by-source = ep ∙ ap (lists (sourcesOn b)) ef
+-- a source of the tables has an entry
+pub tables-entry : (b : Bench) (w : ℕ) → inTables b w ≡ true → entryFor b w < length (sourcesOn (b .tables))
+tables-entry b w t =
+    lists-entry (sourcesOn (b .tables)) (sourceOf w) (in-job-parts (sourcesOn (b .tables)) (targetsOn (b .tables)) w t .0)
 
-  pub source-absent : not p ≡ true → false ≡ inTables b w
-  unfolding inTables
-  source-absent h = rw (sym by-source ∙ not-true p h) refl
+module _ (b : Bench) (w f i : ℕ) (ef : f ≡ sourceOf w) (ei : i ≡ entryOf (sourcesOn (b .tables)) f) where
+  pub entry-of-source : i ≡ entryFor b w
+  entry-of-source = ei ∙ ap (entryOf (sourcesOn (b .tables))) ef
 
-  pub source-present : (q : Bool) → not p ≡ false → q ≡ hasTarget (targetsOn b) w → q ≡ inTables b w
-  unfolding inTables
-  source-present q h eq = rw (sym by-source ∙ not-false p h) eq
+  pub entry-few : Shaped b → soundBench b ≡ true → i ≤ mostSources
+  entry-few h s = omega (arith, ei, entry-most (sourcesOn (b .tables)) f, sources-few b h (sound-sources (b .tables) (b .bound) s))
 
--- a source of the tables has a place
-pub tables-place : (b : Bench) (w : ℕ) → inTables b w ≡ true → placeFor b w < length (sourcesOn b)
-unfolding inTables
-tables-place b w =
-    either (λ x. x ≡ true → placeFor b w < length (sourcesOn b)) (lists (sourcesOn b) (sourceOf w))
-    (λ h _. lists-place (sourcesOn b) (sourceOf w) h) (λ _ e. absurd (false≢true e))
-
--- ---- the place
-
-module _ (b : Bench) (w f i : ℕ) (ef : f ≡ sourceOf w) (ei : i ≡ placeOf (sourcesOn b) f) where
-  pub place-of-source : i ≡ placeFor b w
-  place-of-source = ei ∙ ap (placeOf (sourcesOn b)) ef
-
-  pub place-few : Shaped b → isSound b ≡ true → i ≤ mostSources
-  place-few h s = omega (arith, ei, place-most (sourcesOn b) f, sources-few b h (sound-sources b s))
-
-module _ (b : Bench) (w : ℕ) (s : isSound b ≡ true) (t : inTables b w ≡ true) (i : ℕ) (ei : (i ≡ placeFor b w) × (i ≤ mostSources)) where
-  pub place-there : Shaped b → i < 27
-  place-there h = omega (arith, ei .0, sources-few b h (sound-sources b s), tables-place b w t)
+module _ (b : Bench) (w : ℕ) (s : soundBench b ≡ true) (t : inTables b w ≡ true) (i : ℕ) (ei : (i ≡ entryFor b w) × (i ≤ mostSources)) where
+  pub entry-there : Shaped b → i < mostSources
+  entry-there h = omega (arith, ei .0, sources-few b h (sound-sources (b .tables) (b .bound) s), tables-entry b w t)
 
   pub by-bound : not (eqb (getD (b .bound) i 0) 0) ≡ isTaken b w
   unfolding isTaken
@@ -64,7 +51,7 @@ module _ (b : Bench) (w : ℕ) (s : isSound b ≡ true) (t : inTables b w ≡ tr
 
 -- ---- the refusals before 10
 
-module _ (b : Bench) (w : ℕ) (p : Bool) (ep : p ≡ isSound b) where
+module _ (b : Bench) (w : ℕ) (p : Bool) (ep : p ≡ soundBench b) where
   pub bind-unsound : not p ≡ true → 20 ≡ bindFault b w
   unfolding bindFault
   bind-unsound h = rw (sym ep ∙ not-true p h) refl
@@ -85,17 +72,17 @@ module _ (b : Bench) (w : ℕ) (p : Bool) (ep : p ≡ isSound b) where
         source-there = sym eq ∙ not-false q hq
 
         module _ (t : Bool) (et : t ≡ isTaken b w) where
-          by-place : bindFault b w ≡ (if t then 21 else 0)
+          by-entry : bindFault b w ≡ (if t then 21 else 0)
           unfolding bindFault
-          by-place =
+          by-entry =
               rw (sym ep ∙ not-false p hp)
               (rw (eq-eqb (ruleFault w) 0 (sym ex ∙ hx)) (rw source-there (ap (λ (z : Bool). if z then 21 else 0) (sym et))))
 
           pub bind-taken : t ≡ true → 21 ≡ bindFault b w
-          bind-taken h = sym (by-place ∙ rw h refl)
+          bind-taken h = sym (by-entry ∙ rw h refl)
 
           pub bind-free : t ≡ false → 0 ≡ bindFault b w
-          bind-free h = sym (by-place ∙ rw h refl)
+          bind-free h = sym (by-entry ∙ rw h refl)
 
 pub at-function : (x w f : ℕ) → x ≡ 21 → f ≡ sourceOf w → f ≡ bindPlace x w
 at-function x w f e ef = rw (eq-eqb x 21 e) ef
@@ -106,7 +93,7 @@ at-word x w h = rw (ne-eqb x 21 h) refl
 -- ---- what a bind that is not refused before 10 has shown
 
 pub record Checked (b : Bench) (w : ℕ) : Type 0 where
-  pub sound : isSound b ≡ true
+  pub sound : soundBench b ≡ true
   pub a-rule : ruleFault w ≡ 0
   pub there : inTables b w ≡ true
   pub free : isTaken b w ≡ false
@@ -115,44 +102,56 @@ pub checked : (b : Bench) (w : ℕ) → bindFault b w ≡ 0 → Checked b w
 unfolding bindFault
 checked b w =
     let Q : ℕ → Type 0 = λ x. x ≡ 0 → Checked b w in
-    either Q (isSound b)
-    (λ s. either Q (eqb (ruleFault w) 0)
-    (λ r. either Q (inTables b w)
+    either Q (not (soundBench b)) (λ _ e. absurd (omega arith))
+    (λ s. either Q (not (eqb (ruleFault w) 0)) (λ r e. absurd (eqb-false (ruleFault w) 0 (not-true (eqb (ruleFault w) 0) r) e))
+    (λ r. either Q (not (inTables b w)) (λ _ e. absurd (omega arith))
     (λ t. either Q (isTaken b w) (λ _ e. absurd (omega arith))
-    (λ f _. record { sound = s; a-rule = eqb-true (ruleFault w) 0 r; there = t; free = f }))
-    (λ _ e. absurd (omega arith)))
-    (λ r e. absurd (eqb-false (ruleFault w) 0 r e)))
-    (λ _ e. absurd (omega arith))
+    (λ f _. record {
+      sound = not-false (soundBench b) s;
+      a-rule = eqb-true (ruleFault w) 0 (not-false (eqb (ruleFault w) 0) r);
+      there = not-false (inTables b w) t;
+      free = f;
+    }))))
 
 -- ---- the call
 
 module _ (b : Bench) (w x : ℕ) (ex : x ≡ bindFault b w) where
-  pub bind-refused : (i : ℕ) → (x ≡ 0 → ⊥) → i ≡ bindPlace x w → Answers (bindOf b w) (gives b (Refused x i))
+  pub bind-refused : (i : ℕ) → (x ≡ 0 → ⊥) → i ≡ bindPlace x w → Binds b w (gives b (Refused (refusal x i)))
   unfolding bindOf
   bind-refused i h ei =
-      rw (ne-eqb (bindFault b w) 0 (λ e. h (ex ∙ e))) (λ k. gives b (Refused (ex k) ((ei ∙ ap (λ (y : ℕ). bindPlace y w) ex) k)))
+      rw (ne-eqb (bindFault b w) 0 (λ e. h (ex ∙ e))) (λ k. gives b (Refused (refusal (ex k) ((ei ∙ ap (λ (y : ℕ). bindPlace y w) ex) k))))
 
   module _ (hx : x ≡ 0) where
-    pub checked-sound : isSound b ≡ true
+    pub checked-sound : soundBench b ≡ true
     checked-sound = checked b w (sym ex ∙ hx) .sound
 
-    pub checked-width : Width (b .width)
-    checked-width = sound-width b checked-sound
+    pub checked-entry : (i : ℕ) → (i ≡ entryFor b w) × (i ≤ mostSources) → Shaped b → i < mostSources
+    checked-entry i ei h = entry-there b w checked-sound (checked b w (sym ex ∙ hx) .there) i ei h
 
-    pub checked-place : (i : ℕ) → (i ≡ placeFor b w) × (i ≤ mostSources) → Shaped b → i < 27
-    checked-place i ei h = place-there b w checked-sound (checked b w (sym ex ∙ hx) .there) i ei h
-
-    module _ (v : Verdict) (says : Says w (b .width) v) where
-      pub bind-right : (i : ℕ) → v ≡ verdict.Right → (i ≡ placeFor b w) × (i ≤ mostSources)
-          → Answers (bindOf b w) (gives (boundAt b i w) Done)
+    module _ (v : Verdict) (says : Says (claimOn b w) (b .tables .width) v) where
+      pub bind-right : (i : ℕ) → v ≡ verdict.Right → (i ≡ entryFor b w) × (i ≤ mostSources) → Binds b w (gives (boundAt b i w) Done)
       unfolding bindOf
       bind-right i ev ei =
           rw (eq-eqb (bindFault b w) 0 (sym ex ∙ hx))
-          (rw (sym (right-says w (b .width) v says ev)) (ap (λ (y : ℕ). gives (boundAt b y w) Done) (ei .0)))
+          (rw (sym (right-says (claimOn b w) (b .tables .width) v says ev)) (ap (λ (y : ℕ). gives (boundAt b y w) Done) (ei .0)))
 
-      pub bind-wrong : (f port left right : ℕ) (carry : Bool) → v ≡ verdict.Wrong f port left right carry
-          → Answers (bindOf b w) (gives b (Wrong f port left right carry))
+      pub bind-wrong : (z : Witness) → v ≡ verdict.Wrong z → Binds b w (gives b (Wrong z))
       unfolding bindOf
-      bind-wrong f port left right carry ev =
+      bind-wrong z ev =
           rw (eq-eqb (bindFault b w) 0 (sym ex ∙ hx))
-          (rw (sym (wrong-says w (b .width) v f port left right carry says ev)) (refl, subst (Says w (b .width)) ev says))
+          (rw (sym (wrong-says (claimOn b w) (b .tables .width) v says z ev)) (refl, subst (Says (claimOn b w) (b .tables .width)) ev says))
+
+-- ---- what a sound bench is asked for
+
+pub is-sound : (b : Bench) (p : Bool) → p ≡ soundBench b → not p ≡ false → soundBench b ≡ true
+is-sound b p ep hp = sym ep ∙ not-false p hp
+
+module _ (b : Bench) (s : soundBench b ≡ true) where
+  pub width-sound : Width (b .tables .width)
+  width-sound = sound-width (b .tables) (b .bound) s
+
+  pub few-sources : b .tables .nsources ≤ mostSources
+  few-sources = sound-sources (b .tables) (b .bound) s
+
+  pub few-targets : b .tables .ntargets ≤ mostTargets
+  few-targets = sound-targets (b .tables) (b .bound) s

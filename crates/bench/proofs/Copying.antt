@@ -1,51 +1,20 @@
--- Words copied into lent ones, and what then stands in a table and in the words of a job.
-use mathlib.Core.Path.{_≡_, refl, sym, ap, _∙_}
-use mathlib.Core.List.{List, _∷_, _++_}
-use Prim.Native.Nat.{ℕ, zero, suc, _+_, _-_, _≤_}
+-- A table: words copied into entries in which nothing stands.
+use mathlib.Core.Path.{_≡_, refl, ap, _∙_}
+use mathlib.Core.List.{List, _++_}
+use Prim.Native.Nat.{ℕ, zero, suc, _-_, _≤_}
 use native.Mathlib.Nat.{zero-add}
 use native.Mathlib.Omega.{arith}
-use lib.ListN.{length, take, drop, set, replicate, length-append}
-use lib.Seq.{sets, sets-eq, length-sets, length-take-le, take-at}
-use Rattle.words.proofs.Copies.{sets-append}
-use Rattle.reader.specs.Kinds.{mostSources, mostTargets}
+use lib.ListN.{length, drop, replicate, length-replicate}
+use lib.Seq.{sets, sets-eq}
 use Rattle.bench.specs.Calls.{tableOf}
-
--- ---- a table
 
 drop-replicate : (i n a : ℕ) → drop i (replicate n a) ≡ replicate (n - i) a
 drop-replicate zero n a = let z : n - 0 ≡ n = omega arith in rw z refl
 drop-replicate (suc i) zero a = let z : 0 - suc i ≡ 0 = omega arith in rw z refl
 drop-replicate (suc i) (suc n) a = let z : suc n - suc i ≡ n - i = omega arith in rw z (drop-replicate i n a)
 
-pub table-filled : (ws t : List ℕ) → length ws ≤ 27 → t ≡ sets (replicate 27 0) 0 ws → t ≡ tableOf ws
+pub table-filled : (most : ℕ) (ws t : List ℕ) → length ws ≤ most → t ≡ sets (replicate most 0) 0 ws → t ≡ tableOf most ws
 unfolding tableOf
-table-filled ws t h e =
-    e ∙ sets-eq ws (replicate 27 0) 0 (omega arith) ∙ ap (λ (l : List ℕ). ws ++ l) (rw zero-add (drop-replicate (length ws) 27 0))
-
--- ---- a job without rules
-
-sets-taken : (xs l : List ℕ) (i : ℕ) → i + length xs ≤ length l → take (i + length xs) (sets l i xs) ≡ take i l ++ xs
-sets-taken xs l i h =
-    rw (sets-eq xs l i h)
-    (take-at (take i l ++ xs) (drop (i + length xs) l) (i + length xs)
-    (omega (arith, length-append (take i l) xs, length-take-le i l (omega arith))))
-
--- the header and the prices, before the tables are copied behind them
-abbrev front : ℕ → ℕ → List ℕ
-front header prices = set (set (replicate 56 0) 0 header) 1 prices
-
-module _ (header prices : ℕ) (ss ts m k : List ℕ) (few-sources : length ss ≤ mostSources) (few-targets : length ts ≤ mostTargets)
-    (em : m ≡ sets (front header prices) 2 ss) (ek : k ≡ sets m (2 + length ss) ts) where
-  both-copied : k ≡ sets (front header prices) 2 (ss ++ ts)
-  both-copied =
-      ek ∙ ap (λ (x : List ℕ). sets x (2 + length ss) ts) em ∙ sets-append ss ts (front header prices) 2
-
-  pub job-length : 2 + length ss + length ts ≡ length (take (2 + length ss + length ts) k)
-  job-length =
-      sym (length-take-le (2 + length ss + length ts) k
-      (rw (both-copied, length-sets (front header prices) 2 (ss ++ ts)) (omega arith)))
-
-  pub job-words : take (2 + length ss + length ts) k ≡ header ∷ prices ∷ (ss ++ ts)
-  job-words =
-      let q : 2 + length ss + length ts ≡ 2 + length (ss ++ ts) = omega (arith, length-append ss ts) in
-      rw (both-copied, q) (sets-taken (ss ++ ts) (front header prices) 2 (omega (arith, length-append ss ts)))
+table-filled most ws t h e =
+    e ∙ sets-eq ws (replicate most 0) 0 (omega (arith, length-replicate {A = ℕ} most 0))
+    ∙ ap (λ (l : List ℕ). ws ++ l) (rw zero-add (drop-replicate (length ws) most 0))

@@ -9,134 +9,137 @@ use lib.ListN.{length, take, getD, List·getD-append}
 use lib.Seq.{length-take-le}
 use borrow.Author.Tests.{eq-eqb, ne-eqb, eqb-true, not-true, not-false}
 use Rattle.words.specs.Choice.{if_then_else_}
+use Rattle.words.specs.Field.{sourceFunction}
+use Rattle.words.specs.Kinds.{SOURCE}
+use Rattle.words.specs.Paper.{refusal}
+use Rattle.words.specs.declared.Refusal.{Refusal}
 use Rattle.words.proofs.Choices.{and-split}
-use Rattle.reader.specs.Kinds.{SOURCE}
 use Rattle.reader.specs.Job.{jobOf}
 use Rattle.reader.specs.declared.Job.{Job}
 use Rattle.reader.specs.declared.JobRead.{JobRead}
 use Rattle.reader.specs.declared.JobRead.the-variants as read
-use Rattle.reader.proofs.Parts.{Entry}
-use Rattle.reader.proofs.JobWords.{WellformedJob, well-formed}
-use Rattle.table.specs.Table.{entryPlace}
+use Rattle.wellformed.proofs.Parts.{Entry}
+use Rattle.wellformed.proofs.JobWords.{JobFacts, well-formed}
 use Rattle.writer.specs.Asked.{Writable}
 use Rattle.writer.specs.Write.{mappingWords, writtenOf, lentAfter}
 use Rattle.writer.specs.declared.Written.{Written}
-use Rattle.writer.specs.declared.Written.the-variants.{Words, TooFew}
-use Rattle.bench.specs.Sound.{sourcesOn, targetsOn, bindingsOn, jobWords, filled, empty, placeSound, boundSound, holds, isSound}
-use Rattle.bench.specs.Calls.{gives, glueOn, firstUnbound, unboundOn, written, mappingOn, finishOf, lentOf}
+use Rattle.writer.specs.declared.Written.the-variants as written
+use Rattle.soundness.specs.Sound.{sourcesOn, targetsOn, tableWords, filled, empty, entrySound, boundSound, holds}
+use Rattle.soundness.proofs.Soundness.{sound-holds, sound-sources, sound-width}
+use Rattle.bench.specs.Calls.{soundBench, bindingsOn, gives, glueOn, firstEmpty, unboundOn, afterWriting, mappingOn, finishOf, lentOf}
+use Rattle.bench.specs.Shape.{Shaped}
 use Rattle.bench.specs.declared.Bench.{Bench}
 use Rattle.bench.specs.declared.Answer.{Answer}
 use Rattle.bench.specs.declared.Answer.the-variants.{Mapping, Refused}
-use Rattle.bench.proofs.Shapes.{Shaped, sources-taken}
-use Rattle.bench.proofs.Soundness.{sound-holds, sound-sources, sound-width}
+use Rattle.bench.proofs.Shapes.{sources-taken}
 
 -- ---- the sources of a sound bench are those of a job
 
 -- the job that the bench's words are
 pub record Job-of (b : Bench) : Type 0 where
   pub job : Job
-  pub well : WellformedJob (jobWords b) job
-  pub sources : job .sources ≡ b .nsources
-  pub targets : job .targets ≡ b .ntargets
+  pub well : JobFacts (tableWords (b .tables)) job
+  pub sources : job .sources ≡ b .tables .nsources
+  pub targets : job .targets ≡ b .tables .ntargets
 
-job-of : (b : Bench) → holds (b .nsources) (b .ntargets) (jobOf (jobWords b)) ≡ true → Job-of b
-job-of b = go (jobOf (jobWords b)) refl
+job-of : (b : Bench) → holds (b .tables .nsources) (b .tables .ntargets) (jobOf (tableWords (b .tables))) ≡ true → Job-of b
+job-of b = go (jobOf (tableWords (b .tables))) refl
   where
-    go : (r : JobRead) → jobOf (jobWords b) ≡ r → holds (b .nsources) (b .ntargets) r ≡ true → Job-of b
+    go : (r : JobRead) → jobOf (tableWords (b .tables)) ≡ r → holds (b .tables .nsources) (b .tables .ntargets) r ≡ true → Job-of b
     go (read.Accepted job) e h =
-        let q = and-split (eqb (job .sources) (b .nsources)) (eqb (job .targets) (b .ntargets)) h in
+        let q = and-split (eqb (job .sources) (b .tables .nsources)) (eqb (job .targets) (b .tables .ntargets)) h in
         record {
           job = job;
-          well = well-formed (jobWords b) job e;
-          sources = eqb-true (job .sources) (b .nsources) (q .0);
-          targets = eqb-true (job .targets) (b .ntargets) (q .1);
+          well = well-formed (tableWords (b .tables)) job e;
+          sources = eqb-true (job .sources) (b .tables .nsources) (q .0);
+          targets = eqb-true (job .targets) (b .tables .ntargets) (q .1);
         }
-    go (read.Refused number place) e h = absurd (false≢true h)
+    go (read.Refused r) e h = absurd (false≢true h)
 
-module _ (b : Bench) (h : Shaped b) (s : isSound b ≡ true) where
+module _ (b : Bench) (h : Shaped b) (s : soundBench b ≡ true) where
   pub the-job : Job-of b
-  the-job = job-of b (sound-holds b s .tables .held)
+  the-job = job-of b (sound-holds (b .tables) (b .bound) s .tables .held)
 
-  sources-length : b .nsources ≡ length (sourcesOn b)
-  sources-length = sources-taken b h (sound-sources b s)
+  sources-length : b .tables .nsources ≡ length (sourcesOn (b .tables))
+  sources-length = sources-taken b h (sound-sources (b .tables) (b .bound) s)
 
-  source-word : (m : ℕ) → m < length (sourcesOn b) → getD (jobWords b) (2 + m) 0 ≡ getD (sourcesOn b) m 0
+  source-word : (m : ℕ) → m < length (sourcesOn (b .tables)) → getD (tableWords (b .tables)) (2 + m) 0 ≡ getD (sourcesOn (b .tables)) m 0
   source-word m l =
       let e : 2 + m ≡ suc (suc m) = omega arith in
-      ap (λ (x : ℕ). getD (jobWords b) x 0) e ∙ List·getD-append (sourcesOn b) (targetsOn b) 0 m l
+      ap (λ (x : ℕ). getD (tableWords (b .tables)) x 0) e ∙ List·getD-append (sourcesOn (b .tables)) (targetsOn (b .tables)) 0 m l
 
-  pub source-entry : (m : ℕ) → m < length (sourcesOn b) → Entry SOURCE (getD (sourcesOn b) m 0)
+  pub source-entry : (m : ℕ) → m < length (sourcesOn (b .tables)) → Entry SOURCE (getD (sourcesOn (b .tables)) m 0)
   source-entry m l =
       subst (Entry SOURCE) (source-word m l) (the-job .well .source-words m (omega (arith, sources-length, the-job .sources)))
 
--- ---- every source bound: the bindings are the first places
+-- ---- every source bound: the bindings are the first entries
 
 nothing-filled : (bs : List ℕ) → empty bs ≡ true → filled bs ≡ []
 unfolding empty filled
 nothing-filled [] e = refl
 nothing-filled (w ∷ bs) e = go (eqb w 0) (nothing-filled bs) e
   where
-    go : (c : Bool) → (empty bs ≡ true → filled bs ≡ []) → (if c then empty bs else false) ≡ true
+    go : (c : Bool) → (empty bs ≡ true → filled bs ≡ []) → (if not c then false else empty bs) ≡ true
         → _≡_ {A = List ℕ} (if c then filled bs else w ∷ filled bs) []
     go true h u = h u
     go false h u = absurd (false≢true u)
 
-pub all-filled : (n : ℕ) (ts ss bs : List ℕ) → ((m : ℕ) → m < length ss → 1 ≤ entryPlace (getD ss m 0))
-    → boundSound n ts ss bs ≡ true → firstUnbound ss bs ≡ 0 → take (length ss) bs ≡ filled bs
-unfolding boundSound firstUnbound filled
-all-filled n ts [] bs h s u = sym (nothing-filled bs s)
-all-filled n ts (x ∷ ss) [] h s u = refl
-all-filled n ts (x ∷ ss) (w ∷ bs) h s u =
-    go (placeSound n ts (entryPlace x) w) (eqb w 0) (all-filled n ts ss bs (λ m l. h (suc m) (omega arith))) s u
+pub all-filled : (n : ℕ) (all ts ss bs : List ℕ) → ((m : ℕ) → m < length ss → 1 ≤ sourceFunction (getD ss m 0))
+    → boundSound n all ts ss bs ≡ true → firstEmpty ss bs ≡ 0 → take (length ss) bs ≡ filled bs
+unfolding boundSound firstEmpty filled
+all-filled n all ts [] bs h s u = sym (nothing-filled bs s)
+all-filled n all ts (x ∷ ss) [] h s u = refl
+all-filled n all ts (x ∷ ss) (w ∷ bs) h s u =
+    go (entrySound n all ts x w) (eqb w 0) (all-filled n all ts ss bs (λ m l. h (suc m) (omega arith))) s u
   where
-    go : (p c : Bool) → (boundSound n ts ss bs ≡ true → firstUnbound ss bs ≡ 0 → take (length ss) bs ≡ filled bs)
-        → (if p then boundSound n ts ss bs else false) ≡ true → (if c then entryPlace x else firstUnbound ss bs) ≡ 0
+    go : (p c : Bool) → (boundSound n all ts ss bs ≡ true → firstEmpty ss bs ≡ 0 → take (length ss) bs ≡ filled bs)
+        → (if not p then false else boundSound n all ts ss bs) ≡ true → (if c then sourceFunction x else firstEmpty ss bs) ≡ 0
         → _≡_ {A = List ℕ} (w ∷ take (length ss) bs) (if c then filled bs else w ∷ filled bs)
     go false c k s u = absurd (false≢true s)
     go true true k s u = absurd (omega (arith, h 0 (omega arith)))
     go true false k s u = ap (λ (l : List ℕ). w ∷ l) (k s u)
 
-module _ (b : Bench) (h : Shaped b) (s : isSound b ≡ true) where
+module _ (b : Bench) (h : Shaped b) (s : soundBench b ≡ true) where
   module _ (u : unboundOn b ≡ 0) where
-    pub all-bound : take (b .nsources) (b .bound) ≡ bindingsOn b
+    pub all-bound : take (b .tables .nsources) (b .bound) ≡ bindingsOn b
     all-bound =
         ap (λ (x : ℕ). take x (b .bound)) (sources-length b h s)
-        ∙ all-filled (b .width) (targetsOn b) (sourcesOn b) (b .bound) (λ m l. source-entry b h s m l .least) (sound-holds b s .places) u
+        ∙ all-filled (b .tables .width) (sourcesOn (b .tables)) (targetsOn (b .tables)) (sourcesOn (b .tables)) (b .bound) (λ m l. source-entry b h s m l .least) (sound-holds (b .tables) (b .bound) s .entries) u
 
-  pub bound-fit : b .nsources ≤ length (b .bound)
-  bound-fit = omega (arith, h .bound-places, sound-sources b s)
+  pub bound-fit : b .tables .nsources ≤ length (b .bound)
+  bound-fit = omega (arith, h .bound-entries, sound-sources (b .tables) (b .bound) s)
 
-  pub bound-taken : b .nsources ≡ length (take (b .nsources) (b .bound))
-  bound-taken = sym (length-take-le (b .nsources) (b .bound) bound-fit)
+  pub bound-taken : b .tables .nsources ≡ length (take (b .tables .nsources) (b .bound))
+  bound-taken = sym (length-take-le (b .tables .nsources) (b .bound) bound-fit)
 
-  pub mapping-writable : (g : ℕ) → (g ≡ glueOn b) × (g < 2 ^ 28) → Writable (b .width) g (take (b .nsources) (b .bound))
+  pub mapping-writable : (g : ℕ) → (g ≡ glueOn b) × (g < 2 ^ 28) → Writable (b .tables .width) g (take (b .tables .nsources) (b .bound))
   mapping-writable g eg =
       record {
-        width-fits = sound-width b s .most;
+        width-fits = sound-width (b .tables) (b .bound) s .most;
         glue-fits = eg .1;
-        few-bound = omega (arith, bound-taken, sound-sources b s);
+        few-bound = omega (arith, bound-taken, sound-sources (b .tables) (b .bound) s);
       }
 
   -- ---- the writing
 
-  module _ (lent : List ℕ) (r : Written) (er : r ≡ writtenOf (length (take (b .nsources) (b .bound))) lent) where
-    answer-written : written r ≡ written (writtenOf (b .nsources) lent)
-    answer-written = ap written er ∙ ap (λ (x : ℕ). written (writtenOf x lent)) (sym bound-taken)
+  module _ (lent : List ℕ) (r : Written) (er : r ≡ writtenOf (length (take (b .tables .nsources) (b .bound))) lent) where
+    answer-written : afterWriting r ≡ afterWriting (writtenOf (b .tables .nsources) lent)
+    answer-written = ap afterWriting er ∙ ap (λ (x : ℕ). afterWriting (writtenOf x lent)) (sym bound-taken)
 
-    pub words-written : (n : ℕ) → r ≡ Words n → Mapping n ≡ written (writtenOf (b .nsources) lent)
-    words-written n e = ap written (sym e) ∙ answer-written
+    pub words-written : (n : ℕ) → r ≡ written.Words n → Mapping n ≡ afterWriting (writtenOf (b .tables .nsources) lent)
+    words-written n e = ap afterWriting (sym e) ∙ answer-written
 
-    pub words-lacking : (n : ℕ) → r ≡ TooFew n → Refused 23 n ≡ written (writtenOf (b .nsources) lent)
-    words-lacking n e = ap written (sym e) ∙ answer-written
+    pub words-lacking : (n : Refusal) → r ≡ written.Refused n → Refused n ≡ afterWriting (writtenOf (b .tables .nsources) lent)
+    words-lacking n e = ap afterWriting (sym e) ∙ answer-written
 
   pub mapping-laid : unboundOn b ≡ 0 → (g : ℕ) → (g ≡ glueOn b) × (g < 2 ^ 28) → (lent m : List ℕ)
-      → m ≡ lentAfter (mappingWords (b .width) (take (b .nsources) (b .bound)) g) lent → m ≡ lentAfter (mappingOn b) lent
-  mapping-laid u g eg lent m e = e ∙ (λ i. lentAfter (mappingWords (b .width) (all-bound u i) (eg .0 i)) lent)
+      → m ≡ lentAfter (mappingWords (b .tables .width) (take (b .tables .nsources) (b .bound)) g) lent → m ≡ lentAfter (mappingOn b) lent
+  mapping-laid u g eg lent m e = e ∙ (λ i. lentAfter (mappingWords (b .tables .width) (all-bound u i) (eg .0 i)) lent)
 
 -- ---- the call
 
-module _ (b : Bench) (lent : List ℕ) (p : Bool) (ep : p ≡ isSound b) where
-  pub finish-unsound : not p ≡ true → gives b (Refused 20 0) ≡ finishOf b lent
+module _ (b : Bench) (lent : List ℕ) (p : Bool) (ep : p ≡ soundBench b) where
+  pub finish-unsound : not p ≡ true → gives b (Refused (refusal 20 0)) ≡ finishOf b lent
   unfolding finishOf
   finish-unsound h = rw (sym ep ∙ not-true p h) refl
 
@@ -145,11 +148,11 @@ module _ (b : Bench) (lent : List ℕ) (p : Bool) (ep : p ≡ isSound b) where
   unsound-kept h = rw (sym ep ∙ not-true p h) refl
 
   module _ (hp : not p ≡ false) (u : ℕ) (eu : u ≡ unboundOn b) where
-    pub finish-unbound : (u ≡ 0 → ⊥) → gives b (Refused 22 u) ≡ finishOf b lent
+    pub finish-unbound : (u ≡ 0 → ⊥) → gives b (Refused (refusal 22 u)) ≡ finishOf b lent
     unfolding finishOf
     finish-unbound h =
         rw (sym ep ∙ not-false p hp)
-        (rw (ne-eqb (unboundOn b) 0 (λ e. h (eu ∙ e))) (ap (λ (x : ℕ). gives b (Refused 22 x)) eu))
+        (rw (ne-eqb (unboundOn b) 0 (λ e. h (eu ∙ e))) (ap (λ (x : ℕ). gives b (Refused (refusal 22 x))) eu))
 
     pub unbound-kept : (u ≡ 0 → ⊥) → lent ≡ lentOf b lent
     unfolding lentOf
@@ -159,7 +162,7 @@ module _ (b : Bench) (lent : List ℕ) (p : Bool) (ep : p ≡ isSound b) where
       pub all-sources-bound : unboundOn b ≡ 0
       all-sources-bound = sym eu ∙ hu
 
-      pub finish-written : (a : Answer) → a ≡ written (writtenOf (b .nsources) lent) → gives b a ≡ finishOf b lent
+      pub finish-written : (a : Answer) → a ≡ afterWriting (writtenOf (b .tables .nsources) lent) → gives b a ≡ finishOf b lent
       unfolding finishOf
       finish-written a e =
           rw (sym ep ∙ not-false p hp) (rw (eq-eqb (unboundOn b) 0 all-sources-bound) (ap (gives b) e))

@@ -1,11 +1,7 @@
 pub mod Shapes
 pub mod Copying
 pub mod Searching
-pub mod Soundness
+pub mod Opened
 pub mod Binds
-pub mod Opening
 pub mod Pricing
 pub mod Finishing
-pub mod Keeping
-pub mod Finished
-pub mod Allowed

@@ -1,4 +1,4 @@
--- The searches of places: the place of a function, the first empty place, what the filled places use.
+-- The searches of entries: the entry of a function, the first empty one, what the filled ones use.
 use mathlib.Core.Path.{_≡_, refl, sym, ap, _∙_}
 use mathlib.Core.Bool.{Bool, true, false, false≢true}
 use mathlib.Core.List.{List, [], _∷_}
@@ -11,71 +11,72 @@ use borrow.Author.Tests.{eq-eqb, ne-eqb}
 use Rattle.words.specs.Choice.{if_then_else_}
 use Rattle.words.proofs.Choices.{either}
 use Rattle.words.proofs.Lists.{drop-next}
-use Rattle.table.specs.Table.{entryPlace, lists}
-use Rattle.glue.specs.Sets.{usageOf, usage}
-use Rattle.glue.proofs.Joining.{or-assoc}
-use Rattle.bench.specs.Sound.{filled}
-use Rattle.bench.specs.Calls.{placeOf, firstUnbound}
+use Rattle.words.specs.Field.{sourceFunction}
+use Rattle.table.specs.Table.{listsSource}
+use Rattle.usage.specs.Sets.{usageOf, usage}
+use Rattle.usage.proofs.Joining.{or-assoc}
+use Rattle.soundness.specs.Sound.{filled}
+use Rattle.bench.specs.Calls.{entryOf, firstEmpty}
 
--- ---- the place of a function
+-- ---- the entry of a function
 
-module _ (ss : List ℕ) (f i : ℕ) (e : i + placeOf (drop i ss) f ≡ placeOf ss f) where
-  pub no-place : length ss ≤ i → i ≡ placeOf ss f
-  unfolding placeOf
-  no-place h = let z : i + 0 ≡ placeOf ss f = rw (drop-of-length-le ss h) at e in omega arith
+module _ (ss : List ℕ) (f i : ℕ) (e : i + entryOf (drop i ss) f ≡ entryOf ss f) where
+  pub no-entry : length ss ≤ i → i ≡ entryOf ss f
+  unfolding entryOf
+  no-entry h = let z : i + 0 ≡ entryOf ss f = rw (drop-of-length-le ss h) at e in omega arith
 
-  module _ (h : i < length ss) (p : ℕ) (ep : p ≡ entryPlace (getD ss i 0)) where
-    next-place : i + (if eqb (entryPlace (getD ss i 0)) f then 0 else placeOf (drop (i + 1) ss) f + 1) ≡ placeOf ss f
-    unfolding placeOf
-    next-place = rw (drop-next ss i h) at e
+  module _ (h : i < length ss) (p : ℕ) (ep : p ≡ sourceFunction (getD ss i 0)) where
+    next-entry : i + (if eqb (sourceFunction (getD ss i 0)) f then 0 else entryOf (drop (i + 1) ss) f + 1) ≡ entryOf ss f
+    unfolding entryOf
+    next-entry = rw (drop-next ss i h) at e
 
-    pub place-found : p ≡ f → i ≡ placeOf ss f
-    place-found u =
-        let z : i + 0 ≡ placeOf ss f = rw (eq-eqb (entryPlace (getD ss i 0)) f (sym ep ∙ u)) at next-place in omega arith
+    pub entry-found : p ≡ f → i ≡ entryOf ss f
+    entry-found u =
+        let z : i + 0 ≡ entryOf ss f = rw (eq-eqb (sourceFunction (getD ss i 0)) f (sym ep ∙ u)) at next-entry in omega arith
 
-    pub place-passed : (p ≡ f → ⊥) → i + 1 + placeOf (drop (i + 1) ss) f ≡ placeOf ss f
-    place-passed u =
-        let z : i + (placeOf (drop (i + 1) ss) f + 1) ≡ placeOf ss f
-        = rw (ne-eqb (entryPlace (getD ss i 0)) f (λ q. u (ep ∙ q))) at next-place in
+    pub entry-passed : (p ≡ f → ⊥) → i + 1 + entryOf (drop (i + 1) ss) f ≡ entryOf ss f
+    entry-passed u =
+        let z : i + (entryOf (drop (i + 1) ss) f + 1) ≡ entryOf ss f
+        = rw (ne-eqb (sourceFunction (getD ss i 0)) f (λ q. u (ep ∙ q))) at next-entry in
         omega arith
 
-pub place-most : (ss : List ℕ) (f : ℕ) → placeOf ss f ≤ length ss
-unfolding placeOf
-place-most [] f = omega arith
-place-most (s ∷ ss) f =
-    either (λ x. x ≤ suc (length ss)) (eqb (entryPlace s) f) (λ _. omega arith) (λ _. omega (arith, place-most ss f))
+pub entry-most : (ss : List ℕ) (f : ℕ) → entryOf ss f ≤ length ss
+unfolding entryOf
+entry-most [] f = omega arith
+entry-most (s ∷ ss) f =
+    either (λ x. x ≤ suc (length ss)) (eqb (sourceFunction s) f) (λ _. omega arith) (λ _. omega (arith, entry-most ss f))
 
--- a function that the table lists has a place in it
-pub lists-place : (ss : List ℕ) (f : ℕ) → lists ss f ≡ true → placeOf ss f < length ss
-unfolding lists placeOf
-lists-place [] f e = absurd (false≢true e)
-lists-place (s ∷ ss) f e = go (eqb (entryPlace s) f) (lists-place ss f) e
+-- a function that the table lists has an entry in it
+pub lists-entry : (ss : List ℕ) (f : ℕ) → listsSource ss f ≡ true → entryOf ss f < length ss
+unfolding listsSource entryOf
+lists-entry [] f e = absurd (false≢true e)
+lists-entry (s ∷ ss) f e = go (eqb (sourceFunction s) f) (lists-entry ss f) e
   where
-    go : (b : Bool) → (lists ss f ≡ true → placeOf ss f < length ss) → (if b then true else lists ss f) ≡ true
-        → (if b then 0 else placeOf ss f + 1) < suc (length ss)
+    go : (b : Bool) → (listsSource ss f ≡ true → entryOf ss f < length ss) → (if b then true else listsSource ss f) ≡ true
+        → (if b then 0 else entryOf ss f + 1) < suc (length ss)
     go true h u = omega arith
     go false h u = omega (arith, h u)
 
--- ---- the first empty place
+-- ---- the first empty entry
 
-module _ (ss bs : List ℕ) (i : ℕ) (e : firstUnbound (drop i ss) (drop i bs) ≡ firstUnbound ss bs) where
-  pub none-unbound : length ss ≤ i → 0 ≡ firstUnbound ss bs
-  unfolding firstUnbound
+module _ (ss bs : List ℕ) (i : ℕ) (e : firstEmpty (drop i ss) (drop i bs) ≡ firstEmpty ss bs) where
+  pub none-unbound : length ss ≤ i → 0 ≡ firstEmpty ss bs
+  unfolding firstEmpty
   none-unbound h = rw (drop-of-length-le ss h) at e
 
   module _ (h : i < length ss) (g : length ss ≤ length bs) where
-    next-unbound : (if eqb (getD bs i 0) 0 then entryPlace (getD ss i 0) else firstUnbound (drop (i + 1) ss) (drop (i + 1) bs))
-        ≡ firstUnbound ss bs
-    unfolding firstUnbound
+    next-unbound : (if eqb (getD bs i 0) 0 then sourceFunction (getD ss i 0) else firstEmpty (drop (i + 1) ss) (drop (i + 1) bs))
+        ≡ firstEmpty ss bs
+    unfolding firstEmpty
     next-unbound = rw (drop-next ss i h, drop-next bs i (omega arith)) at e
 
-    pub unbound-found : (p : ℕ) → getD bs i 0 ≡ 0 → p ≡ entryPlace (getD ss i 0) → p ≡ firstUnbound ss bs
+    pub unbound-found : (p : ℕ) → getD bs i 0 ≡ 0 → p ≡ sourceFunction (getD ss i 0) → p ≡ firstEmpty ss bs
     unbound-found p u ep = ep ∙ (rw (eq-eqb (getD bs i 0) 0 u) at next-unbound)
 
-    pub unbound-passed : (getD bs i 0 ≡ 0 → ⊥) → firstUnbound (drop (i + 1) ss) (drop (i + 1) bs) ≡ firstUnbound ss bs
+    pub unbound-passed : (getD bs i 0 ≡ 0 → ⊥) → firstEmpty (drop (i + 1) ss) (drop (i + 1) bs) ≡ firstEmpty ss bs
     unbound-passed u = rw (ne-eqb (getD bs i 0) 0 u) at next-unbound
 
--- ---- what the filled places use
+-- ---- what the filled entries use
 
 pub usage-filled : (w : ℕ) (bs : List ℕ) → usage (filled (w ∷ bs)) ≡ bitOr (if eqb w 0 then 0 else usageOf w) (usage (filled bs))
 unfolding filled usage

@@ -6,183 +6,204 @@ use mathlib.Core.List.{List, [], _∷_, _++_}
 use lib.Dec.{eqb}
 use lib.ListN.{length, getD, set, replicate}
 use Rattle.words.specs.Choice.{if_then_else_}
-use Rattle.words.specs.Paper.{Paper, accepted, refused, refusedWith}
-use Rattle.alu.specs.Bits.{num}
+use Rattle.words.specs.Field.{sourceFunction}
+use Rattle.words.specs.Paper.{Paper, refusal, noRefusal, sourcePlace, accepted, told}
+use Rattle.alu.specs.Function.{noFunction}
 use Rattle.recipe.specs.Fields.{sourceOf}
 use Rattle.binding.specs.Right.{isRight}
-use Rattle.equivalence.specs.Verdicts.{Says}
-use Rattle.equivalence.specs.declared.Verdict.the-variants as verdict
+use Rattle.binding.specs.declared.Claim.{Claim}
+use Rattle.verdict.specs.Verdicts.{Differs, wrongPaper, Ruling, Gives, Names}
+use Rattle.reader.specs.Limits.{mostSources, mostTargets}
 use Rattle.reader.specs.Job.{jobOf}
 use Rattle.reader.specs.declared.Job.{Job}
 use Rattle.reader.specs.declared.JobRead.{JobRead}
 use Rattle.reader.specs.declared.JobRead.the-variants as read
-use Rattle.table.specs.Table.{entryPlace, lists, hasTarget, sourcesOf, targetsOf}
+use Rattle.table.specs.Parts.{sourcesOf, targetsOf}
+use Rattle.table.specs.Table.{inJob, claimIn}
 use Rattle.glue.specs.Glue.{glue}
-use Rattle.glue.specs.declared.Prices.{Prices}
 use Rattle.writer.specs.Write.{mappingWords, writtenOf, lentAfter}
 use Rattle.writer.specs.declared.Written.{Written}
-use Rattle.writer.specs.declared.Written.the-variants.{Words, TooFew}
-use Rattle.bench.specs.Sound.{sourcesOn, targetsOn, bindingsOn, ruleFault, isSound, zeros}
+use Rattle.writer.specs.declared.Written.the-variants as written
+use Rattle.soundness.specs.Sound.{nothing, filled, sourcesOn, targetsOn, ruleFault, isSound}
+use Rattle.soundness.specs.declared.Tables.{Tables}
 use Rattle.bench.specs.declared.Bench.{Bench}
 use Rattle.bench.specs.declared.Answer.{Answer}
 use Rattle.bench.specs.declared.Answer.the-variants.{Done, Count, Mapping, Refused, Wrong}
 use Rattle.bench.specs.declared.After.{After}
+
+-- ---- a bench
+
+-- a bench with these tables and bindings
+abbrev pub benchWith : Tables → List ℕ → Bench
+benchWith tables bound = record { tables = tables; bound = bound }
+
+-- the same bench with other bindings
+abbrev pub holding : Bench → List ℕ → Bench
+holding b bound = benchWith (b .tables) bound
+
+-- "A sound bench has values in range .."
+abbrev pub soundBench : Bench → Bool
+soundBench b = isSound (b .tables) (b .bound)
+
+-- the bindings, in table order
+abbrev pub bindingsOn : Bench → List ℕ
+bindingsOn b = filled (b .bound)
 
 abbrev pub gives : Bench → Answer → After
 gives b a = record { bench = b; answer = a }
 
 -- ---- open: "Opening takes no bench and binds nothing; refused, it hands back one of zeros only"
 
--- a table's words, and nothing in the places past them
-unfoldable pub tableOf : List ℕ → List ℕ
-tableOf ws = ws ++ replicate (27 - length ws) 0
+-- a table's words, and nothing in the entries past them
+unfoldable pub tableOf : ℕ → List ℕ → List ℕ
+tableOf most ws = ws ++ replicate (most - length ws) nothing
 
-abbrev pub opened : List ℕ → Job → Bench
-opened ws job =
+-- the tables of a job, with these words in the entries for its sources and targets
+abbrev pub tablesWith : Job → List ℕ → List ℕ → Tables
+tablesWith job sources targets =
     record {
       width = job .width;
-      inverter = job .inverter;
-      gate = job .gate;
-      multiplexer = job .multiplexer;
-      sources = tableOf (sourcesOf ws job);
+      prices = job .prices;
+      sources = sources;
       nsources = job .sources;
-      targets = tableOf (targetsOf ws job);
+      targets = targets;
       ntargets = job .targets;
-      bound = replicate 27 0;
     }
 
+abbrev pub tablesIn : List ℕ → Job → Tables
+tablesIn ws job = tablesWith job (tableOf mostSources (sourcesOf ws job)) (tableOf mostTargets (targetsOf ws job))
+
+-- a bench with nothing bound
+abbrev pub emptyBench : Tables → Bench
+emptyBench tables = benchWith tables (replicate mostSources nothing)
+
+abbrev pub opened : List ℕ → Job → Bench
+opened ws job = emptyBench (tablesIn ws job)
+
+-- "one of zeros only, which is not sound"
+abbrev pub noJob : Job
+noJob =
+    record {
+      width = 0;
+      prices = record { inverter = 0; gate = 0; multiplexer = 0 };
+      sources = 0;
+      targets = 0;
+      rules = 0;
+    }
+
+abbrev pub zeros : Bench
+zeros = emptyBench (tablesWith noJob (replicate mostSources 0) (replicate mostTargets 0))
+
 abbrev pub openFor : List ℕ → JobRead → After
+openFor ws (read.Refused r) = gives zeros (Refused r)
 openFor ws (read.Accepted job) = gives (opened ws job) Done
-openFor ws (read.Refused number place) = gives zeros (Refused number place)
 
 unfoldable pub openOf : List ℕ → After
 openOf ws = openFor ws (jobOf ws)
 
 -- ---- bind: "20, 2, 3, 5, 6, 8, 21, 10; word places are 0"
 
--- the place of the source whose function it is; the number of sources where there is none
-unfoldable pub placeOf : List ℕ → ℕ → ℕ
-placeOf [] f = 0
-placeOf (s ∷ ss) f = if eqb (entryPlace s) f then 0 else placeOf ss f + 1
+-- the entry of the source whose function it is; the number of sources where there is none
+unfoldable pub entryOf : List ℕ → ℕ → ℕ
+entryOf [] f = 0
+entryOf (s ∷ ss) f = if eqb (sourceFunction s) f then 0 else entryOf ss f + 1
 
--- the place that a recipe is bound at
-abbrev pub placeFor : Bench → ℕ → ℕ
-placeFor b w = placeOf (sourcesOn b) (sourceOf w)
+-- the entry that a recipe is bound at
+abbrev pub entryFor : Bench → ℕ → ℕ
+entryFor b w = entryOf (sourcesOn (b .tables)) (sourceOf w)
 
--- the bench with these words bound
-abbrev pub holding : Bench → List ℕ → Bench
-holding b bound =
-    record {
-      width = b .width;
-      inverter = b .inverter;
-      gate = b .gate;
-      multiplexer = b .multiplexer;
-      sources = b .sources;
-      nsources = b .nsources;
-      targets = b .targets;
-      ntargets = b .ntargets;
-      bound = bound;
-    }
-
--- exactly one place changed
-abbrev pub boundAt : Bench → ℕ → ℕ → Bench
-boundAt b i w = holding b (set (b .bound) i w)
-
--- not refused with 8: the source function is in the job, and so is the target, if there is one
-unfoldable pub inTables : Bench → ℕ → Bool
-inTables b w = if lists (sourcesOn b) (sourceOf w) then hasTarget (targetsOn b) w else false
+-- not "8. Source or target function not in the job"
+abbrev pub inTables : Bench → ℕ → Bool
+inTables b w = inJob (sourcesOn (b .tables)) (targetsOn (b .tables)) w
 
 -- "21. Bind: function already bound"
 unfoldable pub isTaken : Bench → ℕ → Bool
-isTaken b w = not (eqb (getD (b .bound) (placeFor b w) 0) 0)
+isTaken b w = not (eqb (getD (b .bound) (entryFor b w) nothing) nothing)
 
--- the refusals before 10, or 0
+-- the refusals before 10, or none
 unfoldable pub bindFault : Bench → ℕ → ℕ
 bindFault b w =
-    if isSound b then
-    if eqb (ruleFault w) 0 then
-    if inTables b w then
-    if isTaken b w then 21
-    else 0
-    else 8
-    else ruleFault w
-    else 20
+    if not (soundBench b) then 20
+    else if not (eqb (ruleFault w) noRefusal) then ruleFault w
+    else if not (inTables b w) then 8
+    else if isTaken b w then 21
+    else noRefusal
 
 -- "word places are 0"; "21. .. place: function"
 abbrev pub bindPlace : ℕ → ℕ → ℕ
-bindPlace fault w = if eqb fault 21 then sourceOf w else 0
+bindPlace fault w = if eqb fault 21 then sourcePlace (sourceOf w) else 0
 
--- A call's ruling: what it gives, or that it names a wrong recipe. The operands of refusal 10 are the program's choice.
-pub data Ruling : Type 0 where
-  Gives : After → Ruling
-  Names : Bench → ℕ → ℕ → Ruling
+-- the claim of a recipe on a bench
+abbrev pub claimOn : Bench → ℕ → Claim
+claimOn b w = claimIn (sourcesOn (b .tables)) (targetsOn (b .tables)) w
 
-unfoldable pub bindOf : Bench → ℕ → Ruling
+-- exactly one entry changed
+abbrev pub boundAt : Bench → ℕ → ℕ → Bench
+boundAt b i w = holding b (set (b .bound) i w)
+
+unfoldable pub bindOf : Bench → ℕ → Ruling After
 bindOf b w =
-    if eqb (bindFault b w) 0 then
-    if isRight w (b .width) then Gives (gives (boundAt b (placeFor b w) w) Done)
-    else Names b w (b .width)
-    else Gives (gives b (Refused (bindFault b w) (bindPlace (bindFault b w) w)))
+    if not (eqb (bindFault b w) noRefusal) then Gives (gives b (Refused (refusal (bindFault b w) (bindPlace (bindFault b w) w))))
+    else if not (isRight (claimOn b w) (b .tables .width)) then Names (claimOn b w) (b .tables .width)
+    else Gives (gives (boundAt b (entryFor b w) w) Done)
 
--- the answer says that the recipe word w is wrong at width n
-abbrev pub WrongAt : ℕ → ℕ → Answer → Type 0
-WrongAt w n Done = ⊥
-WrongAt w n (Count k) = ⊥
-WrongAt w n (Mapping k) = ⊥
-WrongAt w n (Refused number place) = ⊥
-WrongAt w n (Wrong f port left right carry) = Says w n (verdict.Wrong f port left right carry)
+-- the answer says that a claim is wrong at width n
+abbrev pub WrongAt : Claim → ℕ → Answer → Type 0
+WrongAt c n Done = ⊥
+WrongAt c n (Count k) = ⊥
+WrongAt c n (Mapping k) = ⊥
+WrongAt c n (Refused r) = ⊥
+WrongAt c n (Wrong v) = Differs c n v
 
--- "Lent words and the bench stay unchanged": of refusal 10 the bench is the one handed in
-abbrev pub Answers : Ruling → After → Type 0
-Answers (Gives a) r = r ≡ a
-Answers (Names b w n) r = (r .bench ≡ b) × WrongAt w n (r .answer)
+-- what the ruling on a bind of a bench makes of an answer; "Lent words and the bench stay unchanged", of refusal 10 too
+abbrev pub Answers : Bench → Ruling After → After → Type 0
+Answers b (Gives a) r = r ≡ a
+Answers b (Names c n) r = (r .bench ≡ b) × WrongAt c n (r .answer)
+
+abbrev pub Binds : Bench → ℕ → After → Type 0
+Binds b w r = Answers b (bindOf b w) r
 
 -- ---- price: 20, then the count
 
-abbrev pub pricesOn : Bench → Prices
-pricesOn b = record { inverter = b .inverter; gate = b .gate; multiplexer = b .multiplexer }
-
 unfoldable pub glueOn : Bench → ℕ
-glueOn b = glue (b .width) (pricesOn b) (bindingsOn b)
+glueOn b = glue (b .tables .width) (b .tables .prices) (bindingsOn b)
 
 unfoldable pub priceOf : Bench → After
-priceOf b = gives b (if isSound b then Count (glueOn b) else Refused 20 0)
+priceOf b = gives b (if not (soundBench b) then Refused (refusal 20 0) else Count (glueOn b))
 
 -- ---- finish: 20, 22 (lowest), 23 last; writes the mapping
 
--- the function of the first source, which is the lowest, with nothing bound; 0 for none
-unfoldable pub firstUnbound : List ℕ → List ℕ → ℕ
-firstUnbound [] bound = 0
-firstUnbound (s ∷ ss) [] = 0
-firstUnbound (s ∷ ss) (w ∷ bound) = if eqb w 0 then entryPlace s else firstUnbound ss bound
+-- the function of the first source, which is the lowest, with nothing bound; `noFunction` for none
+unfoldable pub firstEmpty : List ℕ → List ℕ → ℕ
+firstEmpty [] bound = noFunction
+firstEmpty (s ∷ ss) [] = noFunction
+firstEmpty (s ∷ ss) (w ∷ bound) = if eqb w nothing then sourceFunction s else firstEmpty ss bound
 
 abbrev pub unboundOn : Bench → ℕ
-unboundOn b = firstUnbound (sourcesOn b) (b .bound)
+unboundOn b = firstEmpty (sourcesOn (b .tables)) (b .bound)
 
 -- "Lent words fewer than sources + 2; place: words needed."
-abbrev pub written : Written → Answer
-written (Words n) = Mapping n
-written (TooFew needed) = Refused 23 needed
+abbrev pub afterWriting : Written → Answer
+afterWriting (written.Refused r) = Refused r
+afterWriting (written.Words n) = Mapping n
 
 -- "header, 0 to 27 bindings, glue count"
 abbrev pub mappingOn : Bench → List ℕ
-mappingOn b = mappingWords (b .width) (bindingsOn b) (glueOn b)
+mappingOn b = mappingWords (b .tables .width) (bindingsOn b) (glueOn b)
 
 unfoldable pub finishOf : Bench → List ℕ → After
 finishOf b lent =
     gives b
-    (if isSound b then
-    if eqb (unboundOn b) 0 then written (writtenOf (b .nsources) lent)
-    else Refused 22 (unboundOn b)
-    else Refused 20 0)
+    (if not (soundBench b) then Refused (refusal 20 0)
+    else if not (eqb (unboundOn b) noFunction) then Refused (refusal 22 (sourcePlace (unboundOn b)))
+    else afterWriting (writtenOf (b .tables .nsources) lent))
 
 -- the lent words afterwards
 unfoldable pub lentOf : Bench → List ℕ → List ℕ
 lentOf b lent =
-    if isSound b then
-    if eqb (unboundOn b) 0 then lentAfter (mappingOn b) lent
-    else lent
-    else lent
+    if not (soundBench b) then lent
+    else if not (eqb (unboundOn b) noFunction) then lent
+    else lentAfter (mappingOn b) lent
 
 -- ---- an answer in document 01's numbers
 
@@ -190,5 +211,5 @@ abbrev pub paperOf : Answer → Paper
 paperOf Done = accepted []
 paperOf (Count n) = accepted (n ∷ [])
 paperOf (Mapping n) = accepted (n ∷ [])
-paperOf (Refused number place) = refused number place
-paperOf (Wrong f port left right carry) = refusedWith 10 f (port ∷ left ∷ right ∷ num carry ∷ [])
+paperOf (Refused r) = told r
+paperOf (Wrong v) = wrongPaper v

@@ -1,53 +1,35 @@
 // The bench: a mapping put together by hand. Document 01, "Mapper and bench" and "Refusals that come from the state". A bench
 // passes through each call by value and the next bench comes back, with the answer.
+mod entries;
 mod faults;
-mod places;
-mod sound;
+mod opening;
 
-use equivalence::Verdict;
-use reader::Job;
 use reader::JobRead;
+use reader::MOST_SOURCES;
+use soundness::Tables;
+use verdict::Verdict;
+use words::Refusal;
+use words::Witness;
 use writer::Written;
 ghost use mathlib.Core.Path.{_≡_};
 ghost use mathlib.Core.Bool.{true};
 ghost use Prim.Native.Nat.{_<_, _^_};
-ghost use Rattle.reader.specs.Job as J;
-ghost use Rattle.reader.specs.declared.JobRead.the-variants as read;
 ghost use Rattle.writer.specs.Write as W;
-ghost use Rattle.bench.specs.Sound as S;
 ghost use Rattle.bench.specs.Calls as C;
 
-// The job's width, prices and tables, and a place for each source, in table order, for what is bound to it. Places of a table past
-// its number of words hold 0, and so does a place that nothing is bound at.
+// A job's tables, and an entry for each source, in table order, for what is bound to it.
 pub struct Bench {
-    pub width: u32,
-    pub inverter: u8,
-    pub gate: u8,
-    pub multiplexer: u8,
-    pub sources: [u32; 27],
-    pub nsources: u32,
-    pub targets: [u32; 27],
-    pub ntargets: u32,
-    pub bound: [u32; 27],
+    pub tables: Tables,
+    pub bound: [u32; MOST_SOURCES],
 }
 
-// What a call answers: a job opened or a rule bound; a price; how many words were written; a refusal with its number and place; or
-// refusal 10, with the function, the lowest port that differs, and operands and a carry at which it does.
+// What a call answers: a job opened or a rule bound; a price; how many words were written; a refusal; or refusal 10 with its values.
 pub enum Answer {
     Done,
     Count(u32),
     Mapping(usize),
-    Refused {
-        number: u32,
-        place: usize,
-    },
-    Wrong {
-        function: u32,
-        port: u32,
-        left: u64,
-        right: u64,
-        carry: bool,
-    },
+    Refused(Refusal),
+    Wrong(Witness),
 }
 
 // The bench after a call, and the answer.
@@ -56,87 +38,43 @@ pub struct After {
     pub answer: Answer,
 }
 
-fn zeros() -> Bench
-    ensures { λ r. ⌜ r ≡ S.zeros ⌝ }
-{
-    let none = [0u32; 27];
-    Bench {
-        width: 0,
-        inverter: 0,
-        gate: 0,
-        multiplexer: 0,
-        sources: none,
-        nsources: 0,
-        targets: none,
-        ntargets: 0,
-        bound: none,
-    }
-}
-
-// The bench of a job, with nothing bound.
-fn opened(words: &[u32], job: Job) -> Bench
-    requires { ⌜ J.jobOf (now words) ≡ read.Accepted job ⌝ }
-    ensures { λ r. ⌜ r ≡ C.opened (now (words .entry)) job ⌝ }
-{
-    let targets_start = reader::targets_start(job);
-    let rules_start = reader::rules_start(job);
-    let sources = places::table_of(&words[reader::SOURCES_START..targets_start]);
-    let targets = places::table_of(&words[targets_start..rules_start]);
-    let bound = [0u32; 27];
-    Bench {
-        width: job.width,
-        inverter: job.inverter,
-        gate: job.gate,
-        multiplexer: job.multiplexer,
-        sources,
-        nsources: job.sources,
-        targets,
-        ntargets: job.targets,
-        bound,
-    }
-}
-
 // The glue count of what is bound.
 fn glue_on(bench: Bench) -> u32
-    requires { ⌜ S.isSound bench ≡ true ⌝ }
+    requires { ⌜ C.soundBench bench ≡ true ⌝ }
     ensures { λ r. ⌜ (r ≡ C.glueOn bench) × (r < 2 ^ 28) ⌝ }
 {
+    let tables = bench.tables;
+    let prices = tables.prices;
     let bound = bench.bound;
-    let prices = glue::Prices {
-        inverter: bench.inverter,
-        gate: bench.gate,
-        multiplexer: bench.multiplexer,
-    };
-    glue::price(places::usage_of(&bound), bench.width, prices)
+    glue::price(entries::usage_of(&bound), tables.width, prices)
 }
 
-// The function of the first source with nothing bound, or 0.
+// The function of the first source with nothing bound, or NO_FUNCTION.
 fn unbound_on(bench: Bench) -> u32
-    requires { ⌜ S.isSound bench ≡ true ⌝ }
+    requires { ⌜ C.soundBench bench ≡ true ⌝ }
     ensures { λ r. ⌜ r ≡ C.unboundOn bench ⌝ }
 {
-    let sources = bench.sources;
+    let tables = bench.tables;
+    let sources = tables.sources;
+    let nsources = tables.nsources as usize;
     let bound = bench.bound;
-    let nsources = bench.nsources as usize;
-    places::first_unbound(&sources[..nsources], &bound)
+    entries::first_empty(&sources[..nsources], &bound)
 }
 
 // Writes the mapping of a bench whose sources are all bound: refusal 23.
 fn write(bench: Bench, lent: &mut [u32]) -> Answer
-    requires { ⌜ (S.isSound bench ≡ true) × (C.unboundOn bench ≡ 0) ⌝ }
-    ensures answer { λ r. ⌜ r ≡ C.written (W.writtenOf (bench .nsources) (now (lent .entry))) ⌝ }
+    requires { ⌜ (C.soundBench bench ≡ true) × (C.unboundOn bench ≡ 0) ⌝ }
+    ensures answer { λ r. ⌜ r ≡ C.afterWriting (W.writtenOf (bench .tables .nsources) (now (lent .entry))) ⌝ }
     ensures written { λ r. ⌜ now (lent .exit) ≡ W.lentAfter (C.mappingOn bench) (now (lent .entry)) ⌝ }
 {
+    let tables = bench.tables;
+    let nsources = tables.nsources as usize;
     let bound = bench.bound;
-    let nsources = bench.nsources as usize;
     let glue = glue_on(bench);
-    let written = writer::write_mapping(bench.width, &bound[..nsources], glue, lent);
+    let written = writer::write_mapping(tables.width, &bound[..nsources], glue, lent);
     match written {
+        Written::Refused(refusal) => Answer::Refused(refusal),
         Written::Words(count) => Answer::Mapping(count),
-        Written::TooFew(needed) => Answer::Refused {
-            number: 23,
-            place: needed,
-        },
     }
 }
 
@@ -147,12 +85,12 @@ impl Bench {
     {
         let read = reader::read_job(words);
         match read {
-            JobRead::Refused { number, place } => After {
-                bench: zeros(),
-                answer: Answer::Refused { number, place },
+            JobRead::Refused(refusal) => After {
+                bench: opening::zeros(),
+                answer: Answer::Refused(refusal),
             },
             JobRead::Accepted(job) => After {
-                bench: opened(words, job),
+                bench: opening::opened(words, job),
                 answer: Answer::Done,
             },
         }
@@ -160,44 +98,32 @@ impl Bench {
 
     // Binds a rule: refusals 20, 2, 3, 5, 6, 8, 21, 10.
     pub fn bind(mut self, word: u32) -> After
-        ensures { λ r. ⌜ C.Answers (C.bindOf self word) r ⌝ }
+        ensures { λ r. ⌜ C.Binds self word r ⌝ }
     {
         let fault = faults::bind_fault(self, word);
-        if fault != 0 {
+        if fault != words::NO_REFUSAL {
             return After {
                 bench: self,
-                answer: Answer::Refused {
+                answer: Answer::Refused(Refusal {
                     number: fault,
                     place: faults::bind_place(fault, word),
-                },
+                }),
             };
         }
-        let place = faults::place_for(self, word);
-        let verdict = equivalence::verdict_on(word, self.width);
+        let entry = faults::entry_for(self, word);
+        let verdict = faults::verdict_on(self, word);
         match verdict {
+            Verdict::Wrong(witness) => After {
+                bench: self,
+                answer: Answer::Wrong(witness),
+            },
             Verdict::Right => {
-                self.bound[place] = word;
+                self.bound[entry] = word;
                 After {
                     bench: self,
                     answer: Answer::Done,
                 }
             }
-            Verdict::Wrong {
-                function,
-                port,
-                left,
-                right,
-                carry,
-            } => After {
-                bench: self,
-                answer: Answer::Wrong {
-                    function,
-                    port,
-                    left,
-                    right,
-                    carry,
-                },
-            },
         }
     }
 
@@ -205,13 +131,13 @@ impl Bench {
     pub fn price(mut self) -> After
         ensures { λ r. ⌜ r ≡ C.priceOf self ⌝ }
     {
-        if !sound::is_sound(self) {
+        if !faults::is_sound(self) {
             return After {
                 bench: self,
-                answer: Answer::Refused {
+                answer: Answer::Refused(Refusal {
                     number: 20,
                     place: 0,
-                },
+                }),
             };
         }
         After {
@@ -225,23 +151,23 @@ impl Bench {
         ensures answer { λ r. ⌜ r ≡ C.finishOf self (now (lent .entry)) ⌝ }
         ensures written { λ r. ⌜ now (lent .exit) ≡ C.lentOf self (now (lent .entry)) ⌝ }
     {
-        if !sound::is_sound(self) {
+        if !faults::is_sound(self) {
             return After {
                 bench: self,
-                answer: Answer::Refused {
+                answer: Answer::Refused(Refusal {
                     number: 20,
                     place: 0,
-                },
+                }),
             };
         }
         let unbound = unbound_on(self);
-        if unbound != 0 {
+        if unbound != alu::NO_FUNCTION {
             return After {
                 bench: self,
-                answer: Answer::Refused {
+                answer: Answer::Refused(Refusal {
                     number: 22,
                     place: unbound as usize,
-                },
+                }),
             };
         }
         After {

@@ -1,82 +1,51 @@
 // Rules that bind refuses, and some that it binds.
-use crate::answers::is_borne_out;
-use crate::compare::same_bench;
+use crate::calls;
 use crate::files::ADD_RULE;
 use crate::files::LT_RULE;
 use crate::files::RSUB_RULE;
 use crate::files::WRONG_LT_RULE;
+use crate::files::inhibit_bench;
 use crate::files::printed_bench;
-use crate::files::zeros;
-use crate::say;
-use bench::Answer;
-use bench::Bench;
+use crate::files::same_bench;
+use crate::lines;
+use reference::put;
+use reference::say;
+use reference::sound::WIDTH;
 
-// What came back, and whether the bench is the one expected.
-struct Shown {
-    told: Answer,
-    same: bool,
-}
+// No place of a bench: nothing is to be bound.
+const NONE: usize = 87;
 
-fn bound(bench: Bench, word: u32, expected: Bench) -> Shown {
-    let after = bench.bind(word);
-    let told = after.answer;
-    let next = after.bench;
-    Shown {
-        told,
-        same: same_bench(next, expected),
+// What becomes of the bench: the word stands at its place; or the bench is kept, and refusal 10 is borne out.
+fn say_same(same: bool, place: usize, number: u32) {
+    if place < NONE {
+        lines::whether(same, b", at its place\n", b", NOT AT ITS PLACE\n");
+        return;
     }
+    if number == 10 {
+        say::text(b", borne out");
+    }
+    lines::whether(same, b", bench kept\n", b", NOT SO\n");
 }
 
-fn say_shown(name: &[u8], word: u32, shown: Shown, if_so: &[u8], if_not: &[u8]) {
-    let told = shown.told;
+// Binds a word. The bench then has it at a place, or is kept. Refusal 10 comes with operands, which are evaluated again.
+fn show_at(name: &[u8], bench: [u32; 87], word: u32, place: usize) {
+    let after = calls::bind(bench, word);
+    let told = after.answer;
+    let witness = told.witness;
+    let next = after.bench;
+    let mut expected = bench;
+    put(&mut expected, place, word);
+    let borne = (told.number != 10) | reference::bears_out(word, bench[WIDTH], witness);
     say::word(b"    ", word);
     say::text(b", ");
-    say::call(name, told, shown.same, if_so, if_not);
+    say::text(name);
+    lines::answer(told);
+    say_same(same_bench(&next, &expected) & borne, place, told.number);
 }
 
-// The bench stays as it was.
-fn show_kept(name: &[u8], bench: Bench, word: u32) {
-    let shown = bound(bench, word, bench);
-    say_shown(name, word, shown, b", bench kept\n", b", BENCH CHANGED\n");
-}
-
-// The bench has the word at its place.
-fn show_bound(name: &[u8], bench: Bench, word: u32, expected: Bench) {
-    let shown = bound(bench, word, expected);
-    say_shown(
-        name,
-        word,
-        shown,
-        b", at its place\n",
-        b", NOT AT ITS PLACE\n",
-    );
-}
-
-// Refusal 10 comes with operands, which are evaluated again.
-fn show_wrong(name: &[u8], bench: Bench, word: u32) {
-    let shown = bound(bench, word, bench);
-    let told = shown.told;
-    let same = shown.same & is_borne_out(told, word, bench.width);
-    say_shown(
-        name,
-        word,
-        Shown { told, same },
-        b", borne out, bench kept\n",
-        b", NOT BORNE OUT OR BENCH CHANGED\n",
-    );
-}
-
-// The printed job at width 16, ADD bound.
-fn begun() -> Bench {
-    printed_bench(16, ADD_RULE, 0, 0, 0)
-}
-
+// On the printed job at width 16, ADD bound.
 fn show(name: &[u8], word: u32) {
-    show_kept(name, begun(), word);
-}
-
-fn show_begun_wrong(name: &[u8], word: u32) {
-    show_wrong(name, begun(), word);
+    show_at(name, printed_bench(16, ADD_RULE, 0, 0, 0), word, NONE);
 }
 
 fn show_words() {
@@ -86,6 +55,9 @@ fn show_words() {
     show(b"bit 4", 0x5185_C970);
     show(b"right wiring 7", 0x5185_F960);
     show(b"main output 3", 0x5185_CB60);
+}
+
+fn show_recipes() {
     show(b"target 28", 0x51F1_C960);
     show(b"wired from scratch", 0x5401_0001);
     show(b"LT from scratch", 0x5C80_0001);
@@ -99,11 +71,11 @@ fn show_tables() {
     show(b"ADD again", 0x5085_4960);
 }
 
-fn show_all_wrong() {
-    show_begun_wrong(b"LT as printed", WRONG_LT_RULE);
-    show_begun_wrong(b"LT of the appendix", 0x5C8A_240B);
-    show_begun_wrong(b"RSUB as ADD", 0x5185_4960);
-    show_begun_wrong(b"AND of another vector", 0x5400_0002);
+fn show_wrong() {
+    show(b"LT as printed", WRONG_LT_RULE);
+    show(b"LT of the appendix", 0x5C8A_240B);
+    show(b"RSUB as ADD", 0x5185_4960);
+    show(b"AND of another vector", 0x5400_0002);
 }
 
 fn show_first() {
@@ -111,6 +83,9 @@ fn show_first() {
     show(b"3 before 5", 0x5CA1_401C);
     show(b"5 before 6", 0x5185_C801);
     show(b"5 before 8", 0x5CA1_400C);
+}
+
+fn show_next() {
     show(b"6 before 8", 0x5109_4920);
     show(b"8 before 21", 0x508D_4960);
     show(b"8 before 10", 0x5105_4960);
@@ -118,60 +93,47 @@ fn show_first() {
 }
 
 // LT as GOR of RINHI is right at width 1 alone.
-fn show_widths() {
-    let one = inhibit_bench(1, 0);
-    let expected = inhibit_bench(1, 0x5CCD_4003);
-    show_bound(b"LT at width 1", one, 0x5CCD_4003, expected);
-    show_wrong(b"LT at width 2", inhibit_bench(2, 0), 0x5CCD_4003);
+fn show_bound() {
+    let begun = printed_bench(16, ADD_RULE, 0, 0, 0);
+    show_at(b"RSUB", begun, RSUB_RULE, 55);
+    show_at(b"LT", begun, LT_RULE, 57);
+    say::text(b"bind, LT as GOR of RINHI\n");
+    show_at(b"LT at width 1", inhibit_bench(1, 0), 0x5CCD_4003, 54);
+    show_at(b"LT at width 2", inhibit_bench(2, 0), 0x5CCD_4003, NONE);
 }
 
-fn show_right() {
-    let rsub = printed_bench(16, ADD_RULE, RSUB_RULE, 0, 0);
-    show_bound(b"RSUB", begun(), RSUB_RULE, rsub);
-    let lt = printed_bench(16, ADD_RULE, 0, 0, LT_RULE);
-    show_bound(b"LT", begun(), LT_RULE, lt);
-}
-
-// A job of LT and, as its target, RINHI, with this word bound.
-pub fn inhibit_bench(width: u32, word: u32) -> Bench {
-    let mut bench = zeros();
-    bench.width = width;
-    bench.sources[0] = 0x3000_0019;
-    bench.nsources = 1;
-    bench.targets[0] = 0x4000_0013;
-    bench.ntargets = 1;
-    bench.bound[0] = word;
-    bench
-}
-
-// On the printed job's bench at width 65, or with its printed LT bound, which is wrong.
-fn show_wide(name: &[u8], word: u32) {
-    show_kept(name, printed_bench(65, ADD_RULE, 0, 0, 0), word);
-}
-
-fn show_wrong_bound(name: &[u8], word: u32) {
-    show_kept(name, printed_bench(16, 0, 0, 0, WRONG_LT_RULE), word);
-}
-
-// 20 comes before every other.
+// 20 comes before every other: on zeros, and on the printed job's bench at width 65.
 fn show_unsound() {
-    show_kept(b"on zeros, no kind", zeros(), 0);
-    show_kept(b"on zeros, ADD", zeros(), ADD_RULE);
-    show_wide(b"width 65, bit 4", 0x5185_C970);
-    show_wide(b"width 65, SUB, no source", 0x5109_4960);
-    show_wrong_bound(b"the printed LT bound, LT again", LT_RULE);
-    show_wrong_bound(b"the printed LT bound, RSUB as ADD", 0x5185_4960);
+    let zeros = [0u32; 87];
+    let wide = printed_bench(65, ADD_RULE, 0, 0, 0);
+    show_at(b"on zeros, no kind", zeros, 0, NONE);
+    show_at(b"on zeros, ADD", zeros, ADD_RULE, NONE);
+    show_at(b"width 65, bit 4", wide, 0x5185_C970, NONE);
+    show_at(b"width 65, SUB, no source", wide, 0x5109_4960, NONE);
+}
+
+// The printed LT bound, which is wrong.
+fn show_wrong_bound() {
+    let wrong = printed_bench(16, 0, 0, 0, WRONG_LT_RULE);
+    show_at(b"the printed LT bound, LT again", wrong, LT_RULE, NONE);
+    show_at(
+        b"the printed LT bound, RSUB as ADD",
+        wrong,
+        0x5185_4960,
+        NONE,
+    );
 }
 
 pub fn report() {
     say::text(b"bind, ADD being bound\n");
     show_words();
+    show_recipes();
     show_tables();
-    show_all_wrong();
+    show_wrong();
     show_first();
-    show_right();
-    say::text(b"bind, LT as GOR of RINHI\n");
-    show_widths();
+    show_next();
+    show_bound();
     say::text(b"bind on benches that are not sound\n");
     show_unsound();
+    show_wrong_bound();
 }

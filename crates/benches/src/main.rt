@@ -1,21 +1,16 @@
 // Tries the bench: document 01's printed job bound by hand, in every order; each refusal of each call; runs in which calls are refused;
-// and benches spoilt in a bit or a word, beside a second account of which benches are sound. The lines that show an answer are
+// and benches spoilt in a bit or a word, beside the reference's account of which benches are sound. The lines that show an answer are
 // compared with those that document 01 asks for. The program is a test, so its contracts say only what safety needs.
-mod answers;
 mod binds;
-mod compare;
+mod calls;
 mod files;
 mod finishes;
-mod numbers;
+mod lines;
 mod opens;
 mod orders;
 mod printed;
 mod runs;
-mod say;
-mod second;
-mod spoilt;
 mod tally;
-mod whole;
 
 fn main() {
     printed::report();

@@ -1,18 +1,20 @@
 // Jobs that open refuses, and some at the edge that it does not.
-use crate::compare::same_bench;
-use crate::files::JOB;
-use crate::files::zeros;
-use crate::say;
-use bench::Bench;
+use crate::calls;
+use crate::files::same_bench;
+use crate::lines;
+use reference::JOB;
+use reference::say;
 
 // Opens a job; refused, it hands back the bench of zeros.
 fn show(name: &[u8], words: &[u32]) {
-    let after = Bench::open(words);
-    let told = after.answer;
-    let bench = after.bench;
-    let is_zeros = same_bench(bench, zeros());
+    let opened = calls::open(words);
+    let told = opened.answer;
+    let bench = opened.bench;
+    let zeros = [0u32; 87];
     say::text(b"    ");
-    say::call(name, told, is_zeros, b", zeros\n", b"\n");
+    say::text(name);
+    lines::answer(told);
+    lines::whether(same_bench(&bench, &zeros), b", zeros\n", b"\n");
 }
 
 // The printed job with another word at a place.
@@ -20,15 +22,6 @@ fn show_with(name: &[u8], place: usize, word: u32) {
     let mut words = JOB;
     let at = place % 14;
     words[at] = word;
-    show(name, &words);
-}
-
-fn show_two(name: &[u8], place: usize, word: u32, other: usize, other_word: u32) {
-    let mut words = JOB;
-    let at = place % 14;
-    let other_at = other % 14;
-    words[at] = word;
-    words[other_at] = other_word;
     show(name, &words);
 }
 
@@ -44,33 +37,31 @@ fn show_long() {
     show(b"569 words", &words);
 }
 
-fn show_sequence() {
-    show(b"the printed job", &JOB);
-    show(b"no words", &JOB[..0]);
-    show_long();
-    show(b"a header alone", &JOB[..1]);
-    show(b"a header and prices", &JOB[..2]);
+fn show_kinds() {
     show_with(b"prices first", 0, 0x2001_0103);
     show_with(b"a target before any source", 2, 0x4000_0001);
     show_with(b"a source after a target", 7, 0x3000_001A);
     show_with(b"a binding for a rule", 8, 0x6085_4960);
+    show_with(b"width 64", 0, 0x1000_0040);
+    show_with(b"width 65", 0, 0x1000_0041);
 }
 
 fn show_layout() {
-    show_with(b"width 64", 0, 0x1000_0040);
-    show_with(b"width 65", 0, 0x1000_0041);
     show_with(b"width 0", 0, 0x1000_0000);
     show_with(b"bit 7 of the header", 0, 0x1000_0090);
     show_with(b"bit 24 of the prices", 1, 0x2101_0103);
     show_with(b"source 0", 2, 0x3000_0000);
     show_with(b"source 28", 5, 0x3000_001C);
+}
+
+fn show_rules() {
     show_with(b"target 28", 7, 0x4000_001C);
     show_with(b"bit 4 of a rule", 8, 0x5085_4970);
     show_with(b"left wiring 6", 8, 0x5087_4960);
     show_with(b"ADD from scratch", 8, 0x5080_0001);
 }
 
-fn show_rest() {
+fn show_repeated() {
     show_with(b"a source twice", 3, 0x3000_0001);
     show_with(b"a source below the one before", 5, 0x3000_0002);
     show_with(b"a target twice", 7, 0x4000_0001);
@@ -83,13 +74,23 @@ fn show_first() {
     show_with(b"2 before 3", 8, 0x6FFF_FFFF);
     show_with(b"3 before 4", 3, 0x3000_0000);
     show_with(b"5 before 6", 8, 0x5085_4801);
-    show_two(b"the first of two words", 5, 0x3000_001C, 3, 0x3000_0001);
+    let mut two = JOB;
+    two[5] = 0x3000_001C;
+    two[3] = 0x3000_0001;
+    show(b"the first of two words", &two);
 }
 
 pub fn report() {
+    let job = JOB;
     say::text(b"open\n");
-    show_sequence();
+    show(b"the printed job", &job);
+    show(b"no words", &job[..0]);
+    show_long();
+    show(b"a header alone", &job[..1]);
+    show(b"a header and prices", &job[..2]);
+    show_kinds();
     show_layout();
-    show_rest();
+    show_rules();
+    show_repeated();
     show_first();
 }

@@ -1,15 +1,19 @@
 // The printed job bound in every order.
-use crate::answers::is_done;
-use crate::answers::is_mapping;
-use crate::compare::is_as_printed;
-use crate::compare::same_bench;
-use crate::files::JOB;
-use crate::files::LENT;
+use crate::calls;
+use crate::files::ADD_RULE;
+use crate::files::AND_RULE;
+use crate::files::LT_RULE;
+use crate::files::RSUB_RULE;
 use crate::files::RULES;
-use crate::files::full_bench;
-use crate::numbers::more;
-use crate::say;
-use bench::Bench;
+use crate::files::printed_bench;
+use crate::files::same_bench;
+use reference::DONE;
+use reference::JOB;
+use reference::WRITTEN;
+use reference::answered;
+use reference::more;
+use reference::same_answer;
+use reference::say;
 
 // Orders tried; those in which every bind was done; that end in the stored bench; and in the printed words.
 struct Orders {
@@ -19,82 +23,47 @@ struct Orders {
     written: u64,
 }
 
-// A bench, and whether every bind so far was done.
-struct Run {
-    bench: Bench,
-    done: bool,
-}
-
-// The digits to base 4 of a number name the rules one after another, the lowest first.
-fn rule_at(code: u32, i: u32) -> usize {
-    match i {
-        0 => (code % 4) as usize,
-        1 => (code / 4 % 4) as usize,
-        2 => (code / 16 % 4) as usize,
-        _ => (code / 64 % 4) as usize,
-    }
-}
-
-fn bit_of(code: u32, i: u32) -> u32 {
-    match rule_at(code, i) {
-        0 => 1,
-        1 => 2,
-        2 => 4,
-        _ => 8,
-    }
-}
-
-// Whether each rule is named once.
-fn is_order(code: u32) -> bool {
-    bit_of(code, 0) | bit_of(code, 1) | bit_of(code, 2) | bit_of(code, 3) == 15
-}
-
-fn bind_next(run: Run, code: u32, i: u32) -> Run {
-    let at = rule_at(code, i) % 4;
-    let bench = run.bench;
-    let after = bench.bind(RULES[at]);
-    let told = after.answer;
-    let next = after.bench;
-    Run {
-        bench: next,
-        done: run.done & is_done(told),
-    }
-}
-
-fn bind_all(code: u32) -> Run {
-    let after = Bench::open(&JOB);
-    let bench = after.bench;
-    let first = bind_next(Run { bench, done: true }, code, 0);
-    bind_next(bind_next(bind_next(first, code, 1), code, 2), code, 3)
-}
-
 // Whether a bench finishes with the printed mapping.
-pub fn writes_the_mapping(bench: Bench) -> bool {
-    let mut lent = [LENT; 6];
-    let after = bench.finish(&mut lent);
-    let told = after.answer;
-    is_mapping(told, 6) & is_as_printed(&lent)
+pub fn writes_the_mapping(bench: [u32; 87]) -> bool {
+    let finished = calls::finish(bench, 6);
+    let told = finished.answer;
+    same_answer(told, answered(WRITTEN, 0, 6)) & finished.printed
 }
 
+// The digits to base 4 of a number name the rules one after another, the lowest first. Whether each rule is named once.
+fn is_order(code: u32) -> bool {
+    let first = (1u32 << (code % 4)) | (1u32 << (code / 4 % 4));
+    let last = (1u32 << (code / 16 % 4)) | (1u32 << (code / 64 % 4));
+    first | last == 15
+}
+
+// The rules bound in an order.
 fn with_order(all: Orders, code: u32) -> Orders {
-    let run = bind_all(code);
-    let bench = run.bench;
+    let opened = calls::open(&JOB);
+    let mut bench = opened.bench;
+    let mut rest = code;
+    let mut done: u64 = 0;
+    let mut i: u32 = 0;
+    while i < 4 {
+        let rule = (rest % 4) as usize;
+        let after = calls::bind(bench, RULES[rule]);
+        let told = after.answer;
+        let next = after.bench;
+        bench = next;
+        done = more(done, told.form == DONE);
+        rest = rest / 4;
+        i += 1;
+    }
+    let full = printed_bench(16, ADD_RULE, RSUB_RULE, AND_RULE, LT_RULE);
     Orders {
         tried: more(all.tried, true),
-        done: more(all.done, run.done),
-        same: more(all.same, same_bench(bench, full_bench())),
+        done: more(all.done, done == 4),
+        same: more(all.same, same_bench(&bench, &full)),
         written: more(all.written, writes_the_mapping(bench)),
     }
 }
 
-fn with_code(all: Orders, code: u32) -> Orders {
-    if is_order(code) {
-        return with_order(all, code);
-    }
-    all
-}
-
-fn every_order() -> Orders {
+pub fn report() {
     let mut all = Orders {
         tried: 0,
         done: 0,
@@ -103,15 +72,12 @@ fn every_order() -> Orders {
     };
     let mut code: u32 = 0;
     while code < 256 {
-        let next = with_code(all, code);
-        all = next;
+        if is_order(code) {
+            let next = with_order(all, code);
+            all = next;
+        }
         code += 1;
     }
-    all
-}
-
-pub fn report() {
-    let all = every_order();
     say::count(b"the four rules in each order: ", all.tried);
     say::count(b" tried, all binds done in ", all.done);
     say::count(b", the same bench in ", all.same);

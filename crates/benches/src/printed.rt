@@ -1,91 +1,65 @@
 // The printed job bound in the order of its sources, priced after each call, finished and checked.
-use crate::answers::is_done;
-use crate::answers::is_price;
-use crate::compare::is_as_printed;
-use crate::files::JOB;
-use crate::files::LENT;
+use crate::calls;
 use crate::files::RULES;
-use crate::say;
-use bench::Answer;
-use bench::Bench;
-use checker::Checked;
+use crate::lines;
+use reference::Answer;
+use reference::DONE;
+use reference::JOB;
+use reference::PRICED;
+use reference::answered;
+use reference::same_answer;
+use reference::say;
 
-// The prices after opening and after each of the four rules.
-const PRICES: [u32; 5] = [0, 0, 64, 144, 148];
+// The prices after each of the four rules.
+const PRICES: [usize; 4] = [0, 64, 144, 148];
 
-// A bench's price, and whether it is the stored one.
-fn show_price(bench: Bench, expected: u32) {
-    let after = bench.price();
-    let told = after.answer;
-    say::answer(told);
-    say::whether(is_price(told, expected), b"", b" NOT AS STORED");
+// Whether a call was done, and the price of the bench that came back with it, which is to be the stored one.
+fn show_step(told: Answer, bench: [u32; 87], expected: usize) {
+    lines::whether(told.form == DONE, b" done", b" REFUSED");
+    let after = calls::price(bench);
+    let price = after.answer;
+    lines::answer(price);
+    let stored = same_answer(price, answered(PRICED, 0, expected));
+    lines::whether(stored, b"\n", b" NOT AS STORED\n");
 }
 
-// Shows an answer, and the price of the bench that came back with it.
-fn show_step(name: &[u8], told: Answer, bench: Bench, expected: u32) {
-    say::text(name);
-    say::whether(is_done(told), b" done", b" REFUSED");
-    show_price(bench, expected);
-    say::text(b"\n");
-}
-
-fn bind_next(bench: Bench, i: usize) -> Bench {
-    let at = i % 4;
-    let after = bench.bind(RULES[at]);
-    let told = after.answer;
-    let next = after.bench;
-    say::word(b"    bind ", RULES[at]);
-    show_step(b"", told, next, PRICES[at + 1]);
-    next
-}
-
-fn bind_all(bench: Bench) -> Bench {
+fn bind_all(bench: [u32; 87]) -> [u32; 87] {
     let mut bench = bench;
     let mut i = 0;
     while i < 4 {
-        let next = bind_next(bench, i);
+        let after = calls::bind(bench, RULES[i]);
+        let told = after.answer;
+        let next = after.bench;
+        say::word(b"    bind ", RULES[i]);
+        show_step(told, next, PRICES[i]);
         bench = next;
         i += 1;
     }
     bench
 }
 
-// Finishes into eight words: six are written.
-fn finish(bench: Bench) {
-    let mut lent = [LENT; 8];
-    let after = bench.finish(&mut lent);
-    let told = after.answer;
+pub fn report() {
+    say::text(b"the printed job\n    open");
+    let opened = calls::open(&JOB);
+    let told = opened.answer;
+    let bench = opened.bench;
+    show_step(told, bench, 0);
+    let full = bind_all(bench);
+    // Into eight words, of which six are written.
+    let finished = calls::finish(full, 8);
+    let written = finished.answer;
     say::text(b"    finish");
-    say::answer(told);
-    say::whether(
-        is_as_printed(&lent),
+    lines::answer(written);
+    lines::whether(
+        finished.printed,
         b", as printed and nothing past them\n",
         b", OTHER WORDS\n",
     );
-}
-
-// What the checker says of the words written.
-fn check(bench: Bench) {
-    let mut lent = [LENT; 6];
-    let after = bench.finish(&mut lent);
-    let told = after.answer;
-    let checked = checker::check(&JOB, &lent);
     say::text(b"    checked");
-    say::answer(told);
-    if let Checked::Accepted = checked {
-        say::text(b", accepted\n");
-    } else {
-        say::text(b", NOT ACCEPTED\n");
-    }
-}
-
-pub fn report() {
-    say::text(b"the printed job\n");
-    let after = Bench::open(&JOB);
-    let told = after.answer;
-    let opened = after.bench;
-    show_step(b"    open", told, opened, PRICES[0]);
-    let full = bind_all(opened);
-    finish(full);
-    check(full);
+    lines::answer(written);
+    lines::whether(
+        calls::is_accepted(full),
+        b", accepted\n",
+        b", NOT ACCEPTED\n",
+    );
 }

@@ -1,27 +1,26 @@
-// The bench's calls on spoilt benches, beside the second account of which are sound.
-use crate::answers::is_count;
-use crate::answers::is_refused;
-use crate::binds::inhibit_bench;
-use crate::compare::same_bench;
-use crate::compare::untouched;
+// The bench's calls on spoilt benches, beside the reference's account of which are sound.
+use crate::calls;
+use crate::calls::Told;
 use crate::files::ADD_RULE;
 use crate::files::AND_RULE;
-use crate::files::JOB;
-use crate::files::LENT;
 use crate::files::LT_RULE;
-use crate::files::MAPPING;
 use crate::files::RSUB_RULE;
+use crate::files::inhibit_bench;
 use crate::files::printed_bench;
-use crate::files::zeros;
-use crate::numbers::more;
-use crate::say;
-use crate::second;
-use crate::spoilt;
-use crate::whole::whole_bench;
-use bench::After;
-use bench::Bench;
+use crate::files::same_bench;
+use crate::files::whole_bench;
+use reference::JOB;
+use reference::MAPPING;
+use reference::OF_WORD;
+use reference::PRICED;
+use reference::answered;
+use reference::at;
+use reference::more;
+use reference::same_answer;
+use reference::say;
+use std::num::wrapping_sub_usize;
 
-// Benches tried, those that the second account calls sound, and those on which the bench's calls say otherwise.
+// Benches tried, those that the reference calls sound, and those on which the bench's calls say otherwise.
 struct Tally {
     tried: u64,
     sound: u64,
@@ -36,37 +35,25 @@ fn empty() -> Tally {
     }
 }
 
-// Refused with 20 where the bench is not sound, and only there; refused, the bench comes back as it was.
-fn is_fair(after: After, bench: Bench, sound: bool) -> bool {
-    let next = after.bench;
-    let told = after.answer;
-    let refused = is_refused(told, 20, 0);
-    (refused ^ sound) & (sound | same_bench(next, bench))
+// Refused with 20 where the bench is not sound, and only there; refused, the bench and the lent words are as they were.
+fn is_fair(told: Told, bench: [u32; 87], sound: bool) -> bool {
+    let next = told.bench;
+    let answer = told.answer;
+    let refused = same_answer(answer, answered(OF_WORD, 20, 0));
+    let kept = same_bench(&next, &bench) & told.untouched;
+    (refused ^ sound) & (sound | kept)
 }
 
-fn prices_fairly(bench: Bench, sound: bool) -> bool {
-    let after = bench.price();
-    let next = after.bench;
-    let told = after.answer;
-    let counted = is_count(told);
-    (counted ^ !sound) & is_fair(after, bench, sound) & same_bench(next, bench)
-}
-
-fn binds_fairly(bench: Bench, sound: bool) -> bool {
-    is_fair(bench.bind(RSUB_RULE), bench, sound)
-}
-
-fn finishes_fairly(bench: Bench, sound: bool) -> bool {
-    let mut lent = [LENT; 29];
-    let after = bench.finish(&mut lent);
-    is_fair(after, bench, sound) & (sound | untouched(&lent))
-}
-
-fn with(all: Tally, bench: Bench) -> Tally {
-    let sound = second::is_sound(bench);
-    let fair = prices_fairly(bench, sound)
-        & binds_fairly(bench, sound)
-        & finishes_fairly(bench, sound);
+fn with(all: Tally, bench: [u32; 87]) -> Tally {
+    let sound = reference::sound::is_sound(&bench);
+    let priced = calls::price(bench);
+    let price = priced.answer;
+    let next = priced.bench;
+    let fair = ((price.form == PRICED) ^ !sound)
+        & same_bench(&next, &bench)
+        & is_fair(priced, bench, sound)
+        & is_fair(calls::bind(bench, RSUB_RULE), bench, sound)
+        & is_fair(calls::finish(bench, 29), bench, sound);
     Tally {
         tried: more(all.tried, true),
         sound: more(all.sound, sound),
@@ -74,46 +61,43 @@ fn with(all: Tally, bench: Bench) -> Tally {
     }
 }
 
-fn with_each_bit(bench: Bench) -> Tally {
+// A bit turned: of the three tables and the three numbers 32 a word, then of the prices 8.
+fn turned(bench: [u32; 87], i: u32) -> [u32; 87] {
+    let mut words = bench;
+    if i < 2688 {
+        let place = (i / 32) as usize;
+        words[place] = words[place] ^ (1u32 << (i % 32));
+        return words;
+    }
+    let price = (i / 8 % 3 + 84) as usize;
+    words[price] = words[price] ^ (1u32 << (i % 8));
+    words
+}
+
+fn with_each_bit(bench: [u32; 87]) -> Tally {
     let mut all = empty();
     let mut i: u32 = 0;
-    while i < spoilt::BITS {
-        let next = with(all, spoilt::with_bit(bench, i));
+    while i < 2712 {
+        let next = with(all, turned(bench, i));
         all = next;
         i += 1;
     }
     all
 }
 
-// A word in each place of the three tables.
-fn with_in_each_place(all: Tally, bench: Bench, word: u32) -> Tally {
-    let mut all = all;
-    let mut place = 0;
-    while place < 81 {
-        let next = with(all, spoilt::with_word(bench, place, word));
-        all = next;
-        place += 1;
-    }
-    all
-}
-
-fn with_words(all: Tally, bench: Bench, words: &[u32]) -> Tally {
-    let mut all = all;
+// The words of the printed job and of its mapping, and 0, in each place of the three tables.
+fn with_each_word(bench: [u32; 87]) -> Tally {
+    let mut all = empty();
     let mut i = 0;
-    while i < words.len() {
-        let next = with_in_each_place(all, bench, words[i]);
+    while i < 1701 {
+        let mut words = bench;
+        let which = i / 81;
+        words[i % 81] = at(&JOB, which) | at(&MAPPING, wrapping_sub_usize(which, 14));
+        let next = with(all, words);
         all = next;
         i += 1;
     }
     all
-}
-
-// The words of the printed job and of its mapping, and 0.
-fn with_each_word(bench: Bench) -> Tally {
-    let none = [0u32; 1];
-    let of_job = with_words(empty(), bench, &JOB);
-    let of_mapping = with_words(of_job, bench, &MAPPING);
-    with_words(of_mapping, bench, &none)
 }
 
 fn report_group(name: &[u8], all: Tally) {
@@ -129,9 +113,8 @@ fn report_group(name: &[u8], all: Tally) {
     say::text(b" differ\n");
 }
 
-fn report_bench(name: &[u8], bench: Bench) {
+fn report_bench(name: &[u8], bench: [u32; 87]) {
     say::text(name);
-    say::text(b"\n");
     report_group(b"as it is", with(empty(), bench));
     report_group(b"a bit turned", with_each_bit(bench));
     report_group(b"a word replaced", with_each_word(bench));
@@ -139,13 +122,17 @@ fn report_bench(name: &[u8], bench: Bench) {
 
 pub fn report() {
     report_bench(
-        b"the printed job at width 3, ADD, AND and LT bound",
+        b"the printed job at width 3, ADD, AND and LT bound\n",
         printed_bench(3, ADD_RULE, 0, AND_RULE, LT_RULE),
     );
     report_bench(
-        b"LT as GOR of RINHI at width 1",
+        b"LT as GOR of RINHI at width 1\n",
         inhibit_bench(1, 0x5CCD_4003),
     );
-    report_bench(b"every function bound to itself at width 2", whole_bench(2));
-    report_bench(b"zeros", zeros());
+    report_bench(
+        b"every function bound to itself at width 2\n",
+        whole_bench(2),
+    );
+    let zeros = [0u32; 87];
+    report_bench(b"zeros\n", zeros);
 }

@@ -2,20 +2,20 @@
 use mathlib.Core.Path.{_≡_, refl, sym, ap, ap₂, _∙_}
 use mathlib.Core.Bool.{Bool, true, false}
 use Prim.Native.Nat.{ℕ, _^_, _<_}
-use lib.Dec.{eqb}
-use borrow.Author.Tests.{eq-eqb, ne-eqb}
 use Rattle.words.specs.Choice.{if_then_else_}
 use Rattle.alu.specs.Wiring.{wired, carried}
 use Rattle.alu.specs.Function.{functionOf, ports}
 use Rattle.alu.specs.declared.Ports.{Ports}
 use Rattle.alu.specs.declared.Kind.{Kind}
 use Rattle.alu.proofs.Shown.{ports-lt}
-use Rattle.recipe.specs.Fields.{targetOf, vectorOf, fieldsOf}
+use Rattle.recipe.specs.Fields.{sourceOf, fromScratch, vectorOf, fieldsOf}
 use Rattle.recipe.specs.declared.Fields.{Fields}
 use Rattle.binding.specs.Binding.{plain, sideShows, outputsShow, scratch, fromTarget, recipeOf, shows}
 use Rattle.binding.specs.declared.Side.{Side}
 use Rattle.binding.specs.declared.Outputs.{Outputs}
 use Rattle.binding.specs.declared.Recipe.{Recipe}
+use Rattle.binding.specs.declared.Claim.{Claim}
+use Rattle.binding.specs.Right.{claimOf}
 
 -- a function on its own inputs is the function
 pub plain-shows : (f n l r : ℕ) (c : Bool) → sideShows (plain f) n l r c ≡ ports (functionOf f) n l r c
@@ -38,14 +38,18 @@ target-recipe r K e =
       outputs = record { main = r .main; cout = r .cout; ovf = r .ovf; code = r .code };
     }
 
-module _ (w t : ℕ) (et : t ≡ targetOf w) where
-  pub is-scratch : (v : ℕ) (r : Recipe) → t ≡ 0 → v ≡ vectorOf w → r ≡ scratch v → r ≡ recipeOf w
+module _ (w : ℕ) (t : Bool) (et : t ≡ fromScratch w) where
+  pub is-scratch : (v : ℕ) (r : Recipe) → t ≡ true → v ≡ vectorOf w → r ≡ scratch v → r ≡ recipeOf w
   unfolding recipeOf
-  is-scratch v r z ev er = rw (eq-eqb (targetOf w) 0 (sym et ∙ z)) (er ∙ ap scratch ev)
+  is-scratch v r z ev er = rw (sym et ∙ z) (er ∙ ap scratch ev)
 
-  pub is-target : (u : Fields) (r : Recipe) → (t ≡ 0 → ⊥) → u ≡ fieldsOf w → r ≡ fromTarget u → r ≡ recipeOf w
+  pub is-target : (u : Fields) (r : Recipe) → t ≡ false → u ≡ fieldsOf w → r ≡ fromTarget u → r ≡ recipeOf w
   unfolding recipeOf
-  is-target u r z eu er = rw (ne-eqb (targetOf w) 0 (λ h. z (et ∙ h))) (er ∙ ap fromTarget eu)
+  is-target u r z eu er = rw (sym et ∙ z) (er ∙ ap fromTarget eu)
+
+pub claim-parts : (w f : ℕ) (s : Side) (r : Recipe) → f ≡ sourceOf w → s ≡ plain f → r ≡ recipeOf w
+    → _≡_ {A = Claim} (record { function = f; source = s; recipe = r }) (claimOf w)
+claim-parts w f s r ef es er = λ i. record { function = ef i; source = (es ∙ ap plain ef) i; recipe = er i }
 
 module _ (s : Side) (n a b : ℕ) (c : Bool) (p q : ℕ) (k : Bool) (t : Ports)
     (ep : (p ≡ wired n (s .left) a b) × (p < 2 ^ n)) (eq : (q ≡ wired n (s .right) a b) × (q < 2 ^ n)) (ek : k ≡ carried (s .carry) c)

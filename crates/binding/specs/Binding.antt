@@ -11,7 +11,7 @@ use Rattle.alu.specs.Function.{functionOf, ports}
 use Rattle.alu.specs.declared.Ports.{Ports}
 use Rattle.alu.specs.declared.Kind.{Kind}
 use Rattle.alu.specs.declared.Kind.the-variants.{Logic}
-use Rattle.recipe.specs.Fields.{sourceOf, targetOf, vectorOf, fieldsOf}
+use Rattle.recipe.specs.Fields.{fromScratch, vectorOf, fieldsOf}
 use Rattle.recipe.specs.declared.Fields.{Fields}
 use Rattle.binding.specs.declared.Side.{Side}
 use Rattle.binding.specs.declared.Outputs.{Outputs}
@@ -91,7 +91,7 @@ fromTarget r =
     }
 
 unfoldable pub recipeOf : ℕ → Recipe
-recipeOf w = if eqb (targetOf w) 0 then scratch (vectorOf w) else fromTarget (fieldsOf w)
+recipeOf w = if fromScratch w then scratch (vectorOf w) else fromTarget (fieldsOf w)
 
 abbrev pub shows : Recipe → ℕ → ℕ → ℕ → Bool → Ports
 shows r n left right carry = outputsShow (r .outputs) n (sideShows (r .target) n left right carry)

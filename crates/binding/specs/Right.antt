@@ -4,11 +4,13 @@ use Prim.Native.Nat.{ℕ, zero, suc, _^_, _<_}
 use mathlib.Core.Path.{_≡_}
 use mathlib.Core.Bool.{Bool, true, false, _&&_, Bool·beq}
 use lib.Dec.{eqb}
+use Rattle.words.specs.Paper.{sourcePlace}
 use Rattle.alu.specs.declared.Ports.{Ports}
 use Rattle.recipe.specs.Fields.{sourceOf}
 use Rattle.binding.specs.Binding.{plain, sideShows, recipeOf, shows}
 use Rattle.binding.specs.declared.Side.{Side}
 use Rattle.binding.specs.declared.Recipe.{Recipe}
+use Rattle.binding.specs.declared.Claim.{Claim}
 
 -- a recipe shows at these operands what a source side shows
 abbrev pub Agrees : Side → Recipe → ℕ → ℕ → ℕ → Bool → Type 0
@@ -17,9 +19,13 @@ Agrees s t n left right carry = shows t n left right carry ≡ sideShows s n lef
 abbrev pub RightFor : Side → Recipe → ℕ → Type 0
 RightFor s t n = (left right : ℕ) (carry : Bool) → left < 2 ^ n → right < 2 ^ n → Agrees s t n left right carry
 
--- a recipe word is right at width n
-abbrev pub Right : ℕ → ℕ → Type 0
-Right w n = RightFor (plain (sourceOf w)) (recipeOf w) n
+-- What is claimed of a recipe: that it shows what the side of its source shows. A claim holds, so the recipe is right, at width n
+abbrev pub Right : Claim → ℕ → Type 0
+Right c n = RightFor (c .source) (c .recipe) n
+
+-- the claim of a recipe word by itself: its source function on its own inputs
+abbrev pub claimOf : ℕ → Claim
+claimOf w = record { function = sourcePlace (sourceOf w); source = plain (sourceOf w); recipe = recipeOf w }
 
 -- ---- the same as a test, for definitions that choose by it. It is never computed: it tries all operands.
 
@@ -39,5 +45,5 @@ unfoldable pub isRightFor : Side → Recipe → ℕ → Bool
 isRightFor s t n =
     every (2 ^ n) (λ left. every (2 ^ n) (λ right. agrees s t n left right false && agrees s t n left right true))
 
-abbrev pub isRight : ℕ → ℕ → Bool
-isRight w n = isRightFor (plain (sourceOf w)) (recipeOf w) n
+abbrev pub isRight : Claim → ℕ → Bool
+isRight c n = isRightFor (c .source) (c .recipe) n

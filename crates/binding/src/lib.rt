@@ -5,12 +5,13 @@ use alu::Kind;
 use alu::Ports;
 pub use output::comparison;
 pub use output::exor;
-pub use output::outputs_show;
+use output::outputs_show;
 pub use output::shown_bit;
 ghost use mathlib.Core.Path.{_≡_};
 ghost use Prim.Native.Nat.{_^_, _<_};
 ghost use Rattle.alu.specs.Asked as Q;
 ghost use Rattle.binding.specs.Binding as B;
+ghost use Rattle.binding.specs.Right as R;
 
 // A function on wired inputs.
 pub struct Side {
@@ -33,15 +34,22 @@ pub struct Recipe {
     pub outputs: Outputs,
 }
 
+// What is claimed of a recipe: that it shows what the side of its source shows. Refusals write the source as `function`.
+pub struct Claim {
+    pub function: u32,
+    pub source: Side,
+    pub recipe: Recipe,
+}
+
 // A function on its own inputs.
 pub fn plain(function: u32) -> Side
     ensures { λ r. ⌜ r ≡ B.plain function ⌝ }
 {
     Side {
         kind: alu::function_of(function),
-        left: 2,
-        right: 4,
-        carry: 2,
+        left: alu::I0,
+        right: alu::I1,
+        carry: alu::ICIN,
     }
 }
 
@@ -52,9 +60,9 @@ fn scratch(vector: u32) -> Recipe
     Recipe {
         target: Side {
             kind: Kind::Logic(vector),
-            left: 2,
-            right: 4,
-            carry: 2,
+            left: alu::I0,
+            right: alu::I1,
+            carry: alu::ICIN,
         },
         outputs: Outputs {
             main: 1,
@@ -88,10 +96,24 @@ fn from_target(fields: recipe::Fields) -> Recipe
 pub fn recipe_of(word: u32) -> Recipe
     ensures { λ r. ⌜ r ≡ B.recipeOf word ⌝ }
 {
-    if recipe::target_of(word) == 0 {
+    if recipe::from_scratch(word) {
         return scratch(recipe::vector_of(word));
     }
     from_target(recipe::unpack(word))
+}
+
+// The claim of a recipe word by itself: its source function on its own inputs.
+pub fn claim_of(word: u32) -> Claim
+    ensures { λ r. ⌜ r ≡ R.claimOf word ⌝ }
+{
+    let function = recipe::source_of(word);
+    let source = plain(function);
+    let recipe = recipe_of(word);
+    Claim {
+        function,
+        source,
+        recipe,
+    }
 }
 
 // The ports of a side.

@@ -1,13 +1,16 @@
 // Checks a mapping against its job: check_mapping JOB MAPPING, two file names. It prints ACCEPTED, or the refusal.
 use checker::Checked;
 use console::Input;
+use console::KEPT_WORDS;
 use libc::STDERR_FILENO;
 use reader::JobRead;
+use words::Refusal;
 ghost use mathlib.Core.Path.{_≡_};
 ghost use Prim.Native.Nat.{_≤_};
 ghost use lib.ListN.{length};
 ghost use Rattle.reader.specs.Job as J;
 ghost use Rattle.checker.specs.Check as C;
+ghost use Rattle.console.specs.Read as R;
 ghost use Rattle.check_mapping.specs.Files as F;
 
 // A mapping whose last word is cut short: the job's refusals come before it.
@@ -16,11 +19,11 @@ fn cut_mapping(job: &[u32], end: usize) -> Checked
 {
     let read = reader::read_job(job);
     match read {
-        JobRead::Accepted(_) => Checked::MappingRefused {
+        JobRead::Accepted(_) => Checked::MappingRefused(Refusal {
             number: 2,
             place: end,
-        },
-        JobRead::Refused { number, place } => Checked::JobRefused { number, place },
+        }),
+        JobRead::Refused(refusal) => Checked::JobRefused(refusal),
     }
 }
 
@@ -29,10 +32,10 @@ fn check_files(job: &[u32], first: Input, mapping: &[u32], second: Input) -> Che
     ensures { λ r. ⌜ C.Answers (F.filesRuling (now (job .entry)) (first .cut) (first .whole) (now (mapping .entry)) (second .cut) (second .whole)) r ⌝ }
 {
     if first.cut {
-        return Checked::JobRefused {
+        return Checked::JobRefused(Refusal {
             number: 2,
             place: first.whole,
-        };
+        });
     }
     if second.cut {
         return cut_mapping(job, second.whole);
@@ -42,8 +45,8 @@ fn check_files(job: &[u32], first: Input, mapping: &[u32], second: Input) -> Che
 
 // Reads the file that an argument names, or says why it cannot.
 fn read_file(argument: usize, words: &mut [u32]) -> Input
-    requires { ⌜ 569 ≤ length (now words) ⌝ }
-    ensures { λ r. ⌜ r .kept ≤ 569 ⌝ }
+    requires { ⌜ R.keptWords ≤ length (now words) ⌝ }
+    ensures { λ r. ⌜ r .kept ≤ R.keptWords ⌝ }
 {
     let mut path = io::buffer();
     let length = os::arg(argument, &mut path);
@@ -70,8 +73,8 @@ fn main() {
         io::write_all(STDERR_FILENO, b"usage: check_mapping JOB MAPPING\n");
         return;
     }
-    let mut job = [0u32; 569];
-    let mut mapping = [0u32; 569];
+    let mut job = [0u32; KEPT_WORDS];
+    let mut mapping = [0u32; KEPT_WORDS];
     let first = read_file(1, &mut job);
     if first.failed {
         return;

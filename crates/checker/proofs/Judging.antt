@@ -7,15 +7,20 @@ use lib.Dec.{eqb}
 use lib.ListN.{length, drop, getD, drop-of-length-le}
 use borrow.Author.Tests.{eq-eqb, ne-eqb, not-true, not-false}
 use Rattle.words.specs.Choice.{if_then_else_}
+use Rattle.words.specs.Field.{sourceFunction}
+use Rattle.words.specs.declared.Witness.{Witness}
 use Rattle.words.proofs.Lists.{drop-next}
 use Rattle.recipe.specs.Fields.{sourceOf}
 use Rattle.binding.specs.Right.{isRight}
-use Rattle.equivalence.specs.Verdicts.{Says}
-use Rattle.equivalence.specs.declared.Verdict.{Verdict}
-use Rattle.equivalence.specs.declared.Verdict.the-variants as verdict
-use Rattle.equivalence.proofs.Verdicting.{right-says, wrong-says}
-use Rattle.table.specs.Table.{entryPlace}
-use Rattle.checker.specs.Check.{Ruling, Gives, Names, Answers, binds, firstUnbound, unlessWrong, SaysOfAll}
+use Rattle.binding.specs.declared.Claim.{Claim}
+use Rattle.verdict.specs.Verdicts.{Says, Ruling, Gives, Names}
+use Rattle.verdict.specs.declared.Verdict.{Verdict}
+use Rattle.verdict.specs.declared.Verdict.the-variants as verdict
+use Rattle.verdict.proofs.Verdicting.{right-says, wrong-says}
+use Rattle.table.specs.Parts.{Terms}
+use Rattle.table.specs.Table.{claimIn}
+use Rattle.checker.specs.Check.{Answers, binds, firstUnbound, unlessWrong, SaysOfAll}
+use Rattle.checker.specs.declared.Checked.{Checked}
 use Rattle.checker.specs.declared.Checked.the-variants.{Accepted, Wrong}
 
 -- ---- 9: the search of a source's binding
@@ -43,8 +48,8 @@ module _ (ss ws : List ℕ) (i : ℕ) (e : firstUnbound (drop i ss) ws ≡ first
   unfolding firstUnbound
   all-bound h = rw (drop-of-length-le ss h) at e
 
-  module _ (h : i < length ss) (f : ℕ) (ef : f ≡ entryPlace (getD ss i 0)) (b : Bool) (eb : b ≡ binds ws f) where
-    by-binding : (if b then firstUnbound (drop (i + 1) ss) ws else f) ≡ firstUnbound ss ws
+  module _ (h : i < length ss) (f : ℕ) (ef : f ≡ sourceFunction (getD ss i 0)) (b : Bool) (eb : b ≡ binds ws f) where
+    by-binding : (if not b then f else firstUnbound (drop (i + 1) ss) ws) ≡ firstUnbound ss ws
     unfolding firstUnbound
     by-binding = rw (eb, ef) (rw (drop-next ss i h) at e)
 
@@ -56,23 +61,26 @@ module _ (ss ws : List ℕ) (i : ℕ) (e : firstUnbound (drop i ss) ws ≡ first
 
 -- ---- 10: the bindings, one by one
 
-module _ (ws : List ℕ) (n i : ℕ) (e : unlessWrong n (drop i ws) (Gives Accepted) ≡ unlessWrong n ws (Gives Accepted)) where
-  pub all-right : length ws ≤ i → SaysOfAll n ws verdict.Right
+module _ (t : Terms) (ws : List ℕ) (i : ℕ) (e : unlessWrong t (drop i ws) (Gives Accepted) ≡ unlessWrong t ws (Gives Accepted)) where
+  pub all-right : length ws ≤ i → SaysOfAll t ws verdict.Right
   unfolding unlessWrong
-  all-right h = subst (λ (x : Ruling). Answers x Accepted) (rw (drop-of-length-le ws h) at e) refl
+  all-right h = subst (λ (x : Ruling Checked). Answers x Accepted) (rw (drop-of-length-le ws h) at e) refl
 
-  module _ (h : i < length ws) (v : Verdict) (says : Says (getD ws i 0) n v) where
-    by-test : (if isRight (getD ws i 0) n then unlessWrong n (drop (i + 1) ws) (Gives Accepted) else Names (getD ws i 0) n)
-        ≡ unlessWrong n ws (Gives Accepted)
+  module _ (h : i < length ws) (v : Verdict) (says : Says (claimIn (t .sources) (t .targets) (getD ws i 0)) (t .width) v) where
+    abbrev c : Claim
+    c = claimIn (t .sources) (t .targets) (getD ws i 0)
+
+    by-test : (if not (isRight c (t .width)) then Names c (t .width) else unlessWrong t (drop (i + 1) ws) (Gives Accepted))
+        ≡ unlessWrong t ws (Gives Accepted)
     unfolding unlessWrong
     by-test = rw (drop-next ws i h) at e
 
-    pub next-binding : v ≡ verdict.Right → unlessWrong n (drop (i + 1) ws) (Gives Accepted) ≡ unlessWrong n ws (Gives Accepted)
-    next-binding u = rw (sym (right-says (getD ws i 0) n v says u)) at by-test
+    pub next-binding : v ≡ verdict.Right → unlessWrong t (drop (i + 1) ws) (Gives Accepted) ≡ unlessWrong t ws (Gives Accepted)
+    next-binding u = rw (sym (right-says c (t .width) v says u)) at by-test
 
-    pub a-wrong-one : (f port l r : ℕ) (c : Bool) → v ≡ verdict.Wrong f port l r c → SaysOfAll n ws v
-    a-wrong-one f port l r c u =
-        let named : Names (getD ws i 0) n ≡ unlessWrong n ws (Gives Accepted)
-        = rw (sym (wrong-says (getD ws i 0) n v f port l r c says u)) at by-test in
-        subst (λ (x : Verdict). SaysOfAll n ws x) (sym u)
-        (subst (λ (x : Ruling). Answers x (Wrong f port l r c)) named (subst (Says (getD ws i 0) n) u says))
+    pub a-wrong-one : (x : Witness) → v ≡ verdict.Wrong x → SaysOfAll t ws v
+    a-wrong-one x u =
+        let named : Names c (t .width) ≡ unlessWrong t ws (Gives Accepted)
+        = rw (sym (wrong-says c (t .width) v says x u)) at by-test in
+        subst (λ (y : Verdict). SaysOfAll t ws y) (sym u)
+        (subst (λ (y : Ruling Checked). Answers y (Wrong x)) named (subst (Says c (t .width)) u says))

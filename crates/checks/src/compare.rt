@@ -1,170 +1,93 @@
-// The checker and the pricer, each beside its second.
-use crate::files::at;
-use crate::files::content;
-use crate::numbers::digit;
-use crate::numbers::more;
-use crate::numbers::wide;
-use crate::say;
-use crate::second;
-use crate::second::Refusal;
-use crate::sums::glue_count;
-use crate::trial::is_borne_out;
+// The checker and the pricer, each beside the reference's.
 use checker::Checked;
 use pricer::Priced;
-
-// The answers compared, how many of them differ, and how many had each number: 0 for accepted or counted.
-pub struct Tally {
-    pub compared: u64,
-    pub differ: u64,
-    pub numbers: [u64; 12],
-}
+use reference::Answer;
+use reference::Numbers;
+use reference::OF_BOTH;
+use reference::OF_JOB;
+use reference::OF_MAPPING;
+use reference::PRICED;
+use reference::answered;
+use reference::no_numbers;
+use reference::say;
 
 // Of the checker and of the pricer.
 pub struct Tallies {
-    pub checks: Tally,
-    pub prices: Tally,
-}
-
-fn empty() -> Tally {
-    let numbers = [0; 12];
-    Tally {
-        compared: 0,
-        differ: 0,
-        numbers,
-    }
+    pub checks: Numbers,
+    pub prices: Numbers,
 }
 
 pub fn none() -> Tallies {
     Tallies {
-        checks: empty(),
-        prices: empty(),
+        checks: no_numbers(),
+        prices: no_numbers(),
     }
 }
 
-// Whether an answer is the second's, and its number.
-struct Comparison {
+fn of_checked(answer: Checked) -> Answer {
+    match answer {
+        Checked::Accepted => answered(OF_BOTH, 0, 0),
+        Checked::JobRefused(refusal) => answered(OF_JOB, refusal.number, refusal.place),
+        Checked::MappingRefused(refusal) => answered(OF_MAPPING, refusal.number, refusal.place),
+        Checked::Refused(refusal) => answered(OF_BOTH, refusal.number, refusal.place),
+        Checked::Wrong(witness) => reference::wrong(
+            OF_BOTH,
+            witness.function,
+            witness.port,
+            witness.left,
+            witness.right,
+            witness.carry,
+        ),
+    }
+}
+
+pub fn of_priced(answer: Priced) -> Answer {
+    match answer {
+        Priced::Count(count) => answered(PRICED, 0, count as usize),
+        Priced::JobRefused(refusal) => answered(OF_JOB, refusal.number, refusal.place),
+        Priced::MappingRefused(refusal) => answered(OF_MAPPING, refusal.number, refusal.place),
+        Priced::Refused(refusal) => answered(OF_BOTH, refusal.number, refusal.place),
+    }
+}
+
+// An answer more. The first difference of a tally is written out.
+fn with(
+    what: &[u8],
+    all: Numbers,
+    number: u32,
     same: bool,
-    number: u32,
-}
-
-fn same(refusal: Refusal, whose: u32, number: u32, place: usize) -> bool {
-    (refusal.whose == whose) & (refusal.number == number) & (refusal.place == place)
-}
-
-// What the second checker says where it found no operands: 1 to 9, or after them 10 and 11.
-fn second_check(job: &[u32], mapping: &[u32]) -> Refusal {
-    let refusal = second::before_rightness(job, mapping);
-    if refusal.number != 0 {
-        return refusal;
-    }
-    second::after_completeness(job, mapping)
-}
-
-fn refused_check(
     job: &[u32],
     mapping: &[u32],
-    whose: u32,
-    number: u32,
-    place: usize,
-) -> Comparison {
-    Comparison {
-        same: same(second_check(job, mapping), whose, number, place),
-        number,
-    }
-}
-
-fn wrong_check(
-    job: &[u32],
-    mapping: &[u32],
-    function: u32,
-    port: u32,
-    left: u64,
-    right: u64,
-    carry: u32,
-) -> Comparison {
-    let refusal = second::before_rightness(job, mapping);
-    let n = content(at(job, 0));
-    Comparison {
-        same: (refusal.number == 0) & is_borne_out(mapping, n, function, port, left, right, carry),
-        number: 10,
-    }
-}
-
-fn check_beside(job: &[u32], mapping: &[u32]) -> Comparison {
-    let answer = checker::check(job, mapping);
-    match answer {
-        Checked::Accepted => refused_check(job, mapping, 3, 0, 0),
-        Checked::JobRefused { number, place } => refused_check(job, mapping, 1, number, place),
-        Checked::MappingRefused { number, place } => refused_check(job, mapping, 2, number, place),
-        Checked::Refused { number, place } => refused_check(job, mapping, 3, number, place),
-        Checked::Wrong {
-            function,
-            port,
-            left,
-            right,
-            carry,
-        } => wrong_check(job, mapping, function, port, left, right, digit(carry)),
-    }
-}
-
-fn refused_price(
-    job: &[u32],
-    mapping: &[u32],
-    whose: u32,
-    number: u32,
-    place: usize,
-) -> Comparison {
-    Comparison {
-        same: same(second::before_pricing(job, mapping), whose, number, place),
-        number,
-    }
-}
-
-fn counted_price(job: &[u32], mapping: &[u32], count: u32) -> Comparison {
-    let refusal = second::before_pricing(job, mapping);
-    Comparison {
-        same: (refusal.number == 0) & (glue_count(job, mapping) == wide(count)),
-        number: 0,
-    }
-}
-
-fn price_beside(job: &[u32], mapping: &[u32]) -> Comparison {
-    let answer = pricer::price(job, mapping);
-    match answer {
-        Priced::Count(count) => counted_price(job, mapping, count),
-        Priced::JobRefused { number, place } => refused_price(job, mapping, 1, number, place),
-        Priced::MappingRefused { number, place } => refused_price(job, mapping, 2, number, place),
-        Priced::Refused { number, place } => refused_price(job, mapping, 3, number, place),
-    }
-}
-
-fn say_difference(what: &[u8], job: &[u32], mapping: &[u32], number: u32) {
-    say::text(what);
-    say::count(b" differs, with ", wide(number));
-    say::words(b": job", job);
-    say::words(b", mapping", mapping);
-    say::text(b"\n");
-}
-
-fn noted(tally: Tally, comparison: Comparison) -> Tally {
-    let mut numbers = tally.numbers;
-    let place = (comparison.number % 12) as usize;
-    numbers[place] = more(numbers[place], true);
-    Tally {
-        compared: more(tally.compared, true),
-        differ: more(tally.differ, !comparison.same),
-        numbers,
-    }
-}
-
-// The first difference of a tally is written out.
-fn with(what: &[u8], tally: Tally, comparison: Comparison, job: &[u32], mapping: &[u32]) -> Tally {
-    if !comparison.same {
+) -> Numbers {
+    let tally = all.tally;
+    if !same {
         if tally.differ == 0 {
-            say_difference(what, job, mapping, comparison.number);
+            say::text(what);
+            say::count(b" differs, with ", number as u64);
+            say::words(b": job", job);
+            say::words(b", mapping", mapping);
+            say::text(b"\n");
         }
     }
-    noted(tally, comparison)
+    reference::noted(all, number, same)
+}
+
+// The operands of refusal 10 are the checker's choice, so that they are tried.
+fn with_check(all: Numbers, job: &[u32], mapping: &[u32]) -> Numbers {
+    let told = of_checked(checker::check(job, mapping));
+    let witness = told.witness;
+    let same = if told.number == 10 {
+        reference::wrong_is_borne_out(job, mapping, witness)
+    } else {
+        reference::same_answer(told, reference::check(job, mapping))
+    };
+    with(b"check", all, told.number, same, job, mapping)
+}
+
+fn with_price(all: Numbers, job: &[u32], mapping: &[u32]) -> Numbers {
+    let told = of_priced(pricer::price(job, mapping));
+    let same = reference::same_answer(told, reference::price(job, mapping));
+    with(b"price", all, told.number, same, job, mapping)
 }
 
 // One job and mapping more.
@@ -172,42 +95,38 @@ pub fn compared(all: Tallies, job: &[u32], mapping: &[u32]) -> Tallies {
     let checks = all.checks;
     let prices = all.prices;
     Tallies {
-        checks: with(b"check", checks, check_beside(job, mapping), job, mapping),
-        prices: with(b"price", prices, price_beside(job, mapping), job, mapping),
+        checks: with_check(checks, job, mapping),
+        prices: with_price(prices, job, mapping),
     }
 }
 
-fn say_numbers(numbers: [u64; 12]) {
+fn report_one(all: Numbers, what: &[u8]) {
+    let tally = all.tally;
+    let by = all.by;
+    say::compared(b": ", tally);
+    say::text(b"; ");
+    say::text(what);
+    say::count(b": ", by[0]);
     let mut number = 1;
     while number < 12 {
-        let count = numbers[number];
+        let count = by[number];
         if count != 0 {
             say::count(b", refused ", number as u64);
             say::count(b": ", count);
         }
         number += 1;
     }
-}
-
-fn report_one(tally: Tally, what: &[u8]) {
-    say::count(b": ", tally.compared);
-    say::count(b" compared, ", tally.differ);
-    say::text(b" differ; ");
-    let numbers = tally.numbers;
-    say::text(what);
-    say::count(b": ", numbers[0]);
-    say_numbers(numbers);
     say::text(b"\n");
 }
 
 // Two lines for a group at a width.
 pub fn report(name: &[u8], n: u32, all: Tallies) {
-    say::count(b"width ", wide(n));
+    let checks = all.checks;
+    let prices = all.prices;
+    say::count(b"width ", n as u64);
     say::text(b", ");
     say::text(name);
-    let checks = all.checks;
     report_one(checks, b"accepted");
     say::text(b"    price");
-    let prices = all.prices;
     report_one(prices, b"counted");
 }

@@ -10,6 +10,7 @@ use lib.Seq.{sets, length-take-le, take-all}
 use borrow.Author.Tests.{eqb-false}
 use Rattle.words.specs.Choice.{if_then_else_}
 use Rattle.text.specs.Text.{Puts}
+use Rattle.console.specs.Read.{keptWords, keptBytes}
 
 pub start-length : (l : List ℕ) (n : ℕ) → n ≤ length l → n ≡ length (take n l)
 start-length l n h = sym (length-take-le n l h)
@@ -40,13 +41,13 @@ goes-on at n e = let z = eqb-false n 0 e in omega arith
 pub array-start : (n size : ℕ) (l : List ℕ) → n ≤ size → length l ≡ size → n ≡ length (take n l)
 array-start n size l h e = start-length l n (omega arith)
 
-module _ (n : ℕ) (bytes : List ℕ) (h : n ≤ 2276) (e : length bytes ≡ 2276) where
-  pub words-fit : (words : List ℕ) → 569 ≤ length words → length (take n bytes) / 4 ≤ length words
-  words-fit words w = omega (arith, array-start n 2276 bytes h e)
+module _ (n : ℕ) (bytes : List ℕ) (h : n ≤ keptBytes) (e : length bytes ≡ keptBytes) where
+  pub words-fit : (words : List ℕ) → keptWords ≤ length words → length (take n bytes) / 4 ≤ length words
+  words-fit words w = omega (arith, array-start n keptBytes bytes h e)
 
-  pub words-kept : (k : ℕ) → k ≡ length (take n bytes) / 4 → k ≤ 569
-  words-kept k w = omega (arith, array-start n 2276 bytes h e)
+  pub words-kept : (k : ℕ) → k ≡ length (take n bytes) / 4 → k ≤ keptWords
+  words-kept k w = omega (arith, array-start n keptBytes bytes h e)
 
-  pub kept-words : (size k : ℕ) → n ≡ (if ltb size 2276 then size else 2276) → k ≡ length (take n bytes) / 4
-      → k ≡ (if ltb size 2276 then size else 2276) / 4
-  kept-words size k m w = w ∙ ap (λ (x : ℕ). x / 4) (sym (array-start n 2276 bytes h e) ∙ m)
+  pub kept-words : (size k : ℕ) → n ≡ (if ltb size keptBytes then size else keptBytes) → k ≡ length (take n bytes) / 4
+      → k ≡ (if ltb size keptBytes then size else keptBytes) / 4
+  kept-words size k m w = w ∙ ap (λ (x : ℕ). x / 4) (sym (array-start n keptBytes bytes h e) ∙ m)

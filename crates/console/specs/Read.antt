@@ -1,17 +1,24 @@
 -- What is said of a file that was read: "a last word cut short is 2 at its index". How many bytes a file has, and whether a read
 -- failed, is the system's choice; all else follows from it.
-use Prim.Native.Nat.{ℕ, _/_, _%_, _≤_}
+use Prim.Native.Nat.{ℕ, _+_, _*_, _/_, _%_}
 use mathlib.Core.Path.{_≡_}
 use mathlib.Core.Bool.{Bool, not}
 use lib.Dec.{eqb, ltb}
 use Rattle.words.specs.Choice.{if_then_else_}
+use Rattle.reader.specs.Limits.{mostJobWords}
 use Rattle.console.specs.declared.input.Input.{Input}
 
--- Of a file longer than any job 569 words are kept, one more than a job can have.
+-- Of a file longer than any job so many words are kept, one more than a job can have; and their bytes.
+abbrev pub keptWords : ℕ
+keptWords = mostJobWords + 1
+
+abbrev pub keptBytes : ℕ
+keptBytes = 4 * keptWords
+
 abbrev pub inputOf : ℕ → Bool → Input
 inputOf bytes failed =
     record {
-      kept = (if ltb bytes 2276 then bytes else 2276) / 4;
+      kept = (if ltb bytes keptBytes then bytes else keptBytes) / 4;
       whole = bytes / 4;
       cut = not (eqb (bytes % 4) 0);
       failed = failed;

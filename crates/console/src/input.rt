@@ -8,8 +8,10 @@ ghost use lib.Seq.{sets};
 ghost use Rattle.words.specs.Choice.{if_then_else_};
 ghost use Rattle.console.specs.Read as R;
 
-// The bytes of 569 words: a job has at most 568.
-const KEPT: usize = 2276;
+// The most words that are kept, and their bytes.
+pub const KEPT_WORDS: usize = reader::MOST_JOB_WORDS + 1;
+
+const KEPT_BYTES: usize = 4 * KEPT_WORDS;
 
 // More bytes than a file has.
 const MOST: usize = 4611686018427387904;
@@ -94,13 +96,13 @@ fn read_bytes(fd: i32, kept: &mut [u8]) -> Progress {
 
 // Reads words from a file descriptor.
 pub fn read_words(fd: i32, words: &mut [u32]) -> Input
-    requires { ⌜ 569 ≤ length (now words) ⌝ }
-    ensures few { λ r. ⌜ r .kept ≤ 569 ⌝ }
+    requires { ⌜ R.keptWords ≤ length (now words) ⌝ }
+    ensures few { λ r. ⌜ r .kept ≤ R.keptWords ⌝ }
     ensures read { λ r. ⌜ R.Read r ⌝ }
 {
-    let mut bytes = [0u8; KEPT];
+    let mut bytes = [0u8; KEPT_BYTES];
     let read = read_bytes(fd, &mut bytes);
-    let n = least(read.bytes, KEPT);
+    let n = least(read.bytes, KEPT_BYTES);
     let kept = files::words_of(&bytes[..n], words);
     Input {
         kept,

@@ -3,6 +3,7 @@ mod input;
 mod output;
 
 pub use input::Input;
+pub use input::KEPT_WORDS;
 pub use input::read_words;
 pub use output::print_checked;
 pub use output::print_mapped;

@@ -1,6 +1,9 @@
 // Answers, written to standard output as document 01 has them.
 use checker::Checked;
 use libc::STDOUT_FILENO;
+use text::MOST_LINE_BYTES;
+use words::Refusal;
+use words::Witness;
 
 // Writes the start of a line that was put into these bytes.
 fn print(line: &[u8], end: usize) {
@@ -10,14 +13,14 @@ fn print(line: &[u8], end: usize) {
 }
 
 fn print_binding(word: u32) {
-    let mut line = [0u8; 160];
+    let mut line = [0u8; MOST_LINE_BYTES];
     let end = text::binding_line(word, &mut line);
     print(&line, end);
 }
 
 // The bindings and the glue count of a mapping's words.
 pub fn print_mapped(words: &[u32]) {
-    let mut i = 1;
+    let mut i = reader::BINDINGS_START;
     while i < words.len() {
         if i + 1 < words.len() {
             print_binding(words[i]);
@@ -29,26 +32,26 @@ pub fn print_mapped(words: &[u32]) {
 }
 
 fn print_glue(count: u32) {
-    let mut line = [0u8; 160];
+    let mut line = [0u8; MOST_LINE_BYTES];
     let end = text::glue_line(count, &mut line);
     print(&line, end);
 }
 
-pub fn print_refused(number: u32, place: usize) {
-    let mut line = [0u8; 160];
-    let end = text::refused_line(number, place, &mut line);
+pub fn print_refused(refusal: Refusal) {
+    let mut line = [0u8; MOST_LINE_BYTES];
+    let end = text::refused_line(refusal, &mut line);
     print(&line, end);
 }
 
-fn print_refused_file(number: u32, place: usize, mapping: bool) {
-    let mut line = [0u8; 160];
-    let end = text::refused_file_line(number, place, mapping, &mut line);
+fn print_refused_file(refusal: Refusal, mapping: bool) {
+    let mut line = [0u8; MOST_LINE_BYTES];
+    let end = text::refused_file_line(refusal, mapping, &mut line);
     print(&line, end);
 }
 
-fn print_wrong(function: u32, port: u32, left: u64, right: u64, carry: bool) {
-    let mut line = [0u8; 160];
-    let end = text::wrong_line(function, port, left, right, carry, &mut line);
+fn print_wrong(witness: Witness) {
+    let mut line = [0u8; MOST_LINE_BYTES];
+    let end = text::wrong_line(witness, &mut line);
     print(&line, end);
 }
 
@@ -58,15 +61,9 @@ pub fn print_checked(checked: Checked) {
         Checked::Accepted => {
             io::write_all(STDOUT_FILENO, b"ACCEPTED\n");
         }
-        Checked::JobRefused { number, place } => print_refused_file(number, place, false),
-        Checked::MappingRefused { number, place } => print_refused_file(number, place, true),
-        Checked::Refused { number, place } => print_refused(number, place),
-        Checked::Wrong {
-            function,
-            port,
-            left,
-            right,
-            carry,
-        } => print_wrong(function, port, left, right, carry),
+        Checked::JobRefused(refusal) => print_refused_file(refusal, false),
+        Checked::MappingRefused(refusal) => print_refused_file(refusal, true),
+        Checked::Refused(refusal) => print_refused(refusal),
+        Checked::Wrong(witness) => print_wrong(witness),
     }
 }

@@ -1,26 +1,26 @@
--- A rule written as a binding has another kind and the same recipe: the same fields, refusals, glue and rightness.
+-- A rule written as a binding has another kind and the same recipe: the same fields, refusals, glue and claim.
 use mathlib.Core.Path.{_≡_, refl, ap₂}
 use mathlib.Core.Bool.{true}
 use mathlib.Core.List.{List, [], _∷_}
 use Prim.Native.Nat.{ℕ}
 use native.Mathlib.Omega.{arith}
 use lib.Bits.{bitOr}
-use lib.Dec.{eqb}
 use Rattle.words.specs.Choice.{if_then_else_}
 use Rattle.words.specs.Field.{kindOf, contentOf}
+use Rattle.words.specs.Kinds.{BINDING}
+use Rattle.words.specs.Paper.{sourcePlace}
+use Rattle.words.specs.declared.Prices.{Prices}
 use Rattle.words.proofs.Fields.{field-lt}
-use Rattle.recipe.specs.Fields.{sourceOf, targetOf}
+use Rattle.recipe.specs.Fields.{sourceOf}
 use Rattle.recipe.specs.Layout.{recipeFault}
-use Rattle.recipe.proofs.Content.{same-source, same-target, same-vector, same-fields, same-fault}
+use Rattle.recipe.proofs.Content.{same-source, same-target, same-from-scratch, same-vector, same-fields, same-fault}
 use Rattle.binding.specs.Binding.{plain, scratch, fromTarget, recipeOf}
-use Rattle.binding.specs.Right.{isRightFor, isRight}
-use Rattle.reader.specs.Kinds.{BINDING}
-use Rattle.reader.proofs.Parts.{kind-of-laid, content-of-laid}
-use Rattle.table.specs.Table.{lists, hasTarget}
+use Rattle.wellformed.proofs.Parts.{kind-of-laid, content-of-laid}
+use Rattle.table.specs.Table.{listsTarget, hasTarget, claimIn}
+use Rattle.usage.specs.Sets.{usage}
+use Rattle.usage.proofs.Joining.{usage-content}
 use Rattle.glue.specs.Glue.{glue}
-use Rattle.glue.specs.Sets.{usage}
-use Rattle.glue.specs.declared.Prices.{Prices}
-use Rattle.glue.proofs.Joining.{usage-content, glue-same}
+use Rattle.glue.proofs.Joining.{glue-same}
 use Rattle.writer.specs.Write.{bindingWord, bindingWords}
 
 module _ (w : ℕ) where
@@ -33,9 +33,6 @@ module _ (w : ℕ) where
   pub source-same : sourceOf (bindingWord w) ≡ sourceOf w
   source-same = same-source (bindingWord w) w content-same
 
-  target-same : targetOf (bindingWord w) ≡ targetOf w
-  target-same = same-target (bindingWord w) w content-same
-
   pub fault-same : recipeFault (bindingWord w) ≡ recipeFault w
   fault-same = same-fault (bindingWord w) w content-same
 
@@ -43,15 +40,19 @@ module _ (w : ℕ) where
   unfolding recipeOf
   recipe-same =
       λ i.
-      if eqb (target-same i) 0 then scratch (same-vector (bindingWord w) w content-same i)
+      if same-from-scratch (bindingWord w) w content-same i then scratch (same-vector (bindingWord w) w content-same i)
       else fromTarget (same-fields (bindingWord w) w content-same i)
 
-  pub right-same : (n : ℕ) → isRight (bindingWord w) n ≡ isRight w n
-  right-same n = λ i. isRightFor (plain (source-same i)) (recipe-same i) n
+  pub claim-same : (sources targets : List ℕ) → claimIn sources targets (bindingWord w) ≡ claimIn sources targets w
+  claim-same sources targets =
+      λ i. record { function = sourcePlace (source-same i); source = plain (source-same i); recipe = recipe-same i }
 
   pub has-target-same : (targets : List ℕ) → hasTarget targets (bindingWord w) ≡ hasTarget targets w
   unfolding hasTarget
-  has-target-same targets = λ i. if eqb (target-same i) 0 then true else lists targets (target-same i)
+  has-target-same targets =
+      λ i.
+      if same-from-scratch (bindingWord w) w content-same i then true
+      else listsTarget targets (same-target (bindingWord w) w content-same i)
 
 usage-same : (ws : List ℕ) → usage (bindingWords ws) ≡ usage ws
 unfolding usage bindingWords

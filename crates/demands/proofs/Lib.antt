@@ -1,3 +1,10 @@
+pub mod EveryWidth
+pub mod Starred
+pub mod Parts
+pub mod Firsts
+pub mod ByIndex
+pub mod Papers
+pub mod Accepting
 pub mod Content
 pub mod Choice
 pub mod Written
@@ -5,6 +12,10 @@ pub mod Chosen
 pub mod Accepted
 pub mod Sources
 pub mod Outcomes
+pub mod OpenedSound
+pub mod Keeping
+pub mod Allowed
+pub mod Finished
 pub mod Benches
 pub mod AnyOrder
 pub mod Finishing

@@ -6,8 +6,9 @@ use native.Mathlib.Decide.{decLt}
 use native.Mathlib.Omega.{arith}
 use lib.ListN.{length, drop}
 use borrow.Author.Tests.{lt-ltb, le-ltb}
-use Rattle.words.specs.Paper.{Paper, accepted, refused}
-use Rattle.reader.specs.Job.{jobOf}
+use Rattle.words.specs.Paper.{Paper, accepted, refused, told}
+use Rattle.words.specs.declared.Refusal.{Refusal}
+use Rattle.reader.specs.Job.{jobOf, WellFormedJob}
 use Rattle.reader.specs.declared.Job.{Job}
 use Rattle.reader.specs.declared.JobRead.{JobRead}
 use Rattle.reader.specs.declared.JobRead.the-variants as job-read
@@ -26,31 +27,31 @@ accepted-apart n number place e =
     absurd (omega arith)
 
 pub data Outcome (ws lent : List ℕ) : Type 0 where
-  Unread : (number place : ℕ) → jobOf ws ≡ job-read.Refused number place → paperOf (answerOf ws lent) ≡ refused number place
+  Unread : (r : Refusal) → jobOf ws ≡ job-read.Refused r → paperOf (answerOf ws lent) ≡ told r
       → lentOf ws lent ≡ lent → Outcome ws lent
-  Unmapped : (job : Job) (f : ℕ) → jobOf ws ≡ job-read.Accepted job → choiceOf ws job ≡ Unmappable f
-      → paperOf (answerOf ws lent) ≡ refused 12 f → lentOf ws lent ≡ lent → Outcome ws lent
-  Short : (job : Job) (bound : List ℕ) → jobOf ws ≡ job-read.Accepted job → choiceOf ws job ≡ Mapped bound
+  Unmapped : (job : Job) (place : ℕ) → WellFormedJob ws job → choiceOf ws job ≡ Unmappable place
+      → paperOf (answerOf ws lent) ≡ refused 12 place → lentOf ws lent ≡ lent → Outcome ws lent
+  Short : (job : Job) (bound : List ℕ) → WellFormedJob ws job → choiceOf ws job ≡ Mapped bound
       → length lent < wordsNeeded (job .sources) → paperOf (answerOf ws lent) ≡ refused 23 (wordsNeeded (job .sources))
       → lentOf ws lent ≡ lent → Outcome ws lent
-  Writes : (job : Job) (bound : List ℕ) → jobOf ws ≡ job-read.Accepted job → choiceOf ws job ≡ Mapped bound
+  Writes : (job : Job) (bound : List ℕ) → WellFormedJob ws job → choiceOf ws job ≡ Mapped bound
       → wordsNeeded (job .sources) ≤ length lent → paperOf (answerOf ws lent) ≡ accepted (wordsNeeded (job .sources) ∷ [])
       → lentOf ws lent ≡ chosenWords job bound ++ drop (wordsNeeded (job .sources)) lent → Outcome ws lent
 
 module _ (ws lent : List ℕ) where
-  of-refused : (number place : ℕ) → jobOf ws ≡ job-read.Refused number place → Outcome ws lent
+  of-refused : (r : Refusal) → jobOf ws ≡ job-read.Refused r → Outcome ws lent
   unfolding answerOf lentOf
-  of-refused number place e = Unread number place e (rw e refl) (rw e refl)
+  of-refused r e = Unread r e (rw e refl) (rw e refl)
 
   -- where a job is read its choice decides
-  module _ (job : Job) (e : jobOf ws ≡ job-read.Accepted job) where
-    pub unmappable-answer : (f : ℕ) → choiceOf ws job ≡ Unmappable f → paperOf (answerOf ws lent) ≡ refused 12 f
+  module _ (job : Job) (e : WellFormedJob ws job) where
+    pub unmappable-answer : (place : ℕ) → choiceOf ws job ≡ Unmappable place → paperOf (answerOf ws lent) ≡ refused 12 place
     unfolding answerOf
-    unmappable-answer f c = rw e (rw c refl)
+    unmappable-answer place c = rw e (rw c refl)
 
-    of-unmappable : (f : ℕ) → choiceOf ws job ≡ Unmappable f → Outcome ws lent
+    of-unmappable : (place : ℕ) → choiceOf ws job ≡ Unmappable place → Outcome ws lent
     unfolding lentOf
-    of-unmappable f c = Unmapped job f e c (unmappable-answer f c) (rw e (rw c refl))
+    of-unmappable place c = Unmapped job place e c (unmappable-answer place c) (rw e (rw c refl))
 
     module _ (bound : List ℕ) (c : choiceOf ws job ≡ Mapped bound) where
       one : length bound ≡ job .sources
@@ -89,11 +90,11 @@ module _ (ws lent : List ℕ) where
 
     of-job : (c : Choice) → choiceOf ws job ≡ c → Outcome ws lent
     of-job (Mapped bound) c = of-mapped bound c
-    of-job (Unmappable f) c = of-unmappable f c
+    of-job (Unmappable place) c = of-unmappable place c
 
   of-read : (r : JobRead) → jobOf ws ≡ r → Outcome ws lent
   of-read (job-read.Accepted job) e = of-job job e (choiceOf ws job) refl
-  of-read (job-read.Refused number place) e = of-refused number place e
+  of-read (job-read.Refused r) e = of-refused r e
 
   pub outcome : Outcome ws lent
   outcome = of-read (jobOf ws) refl

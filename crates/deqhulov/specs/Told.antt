@@ -5,18 +5,18 @@ use Prim.Native.Nat.{ℕ}
 use mathlib.Core.Path.{_≡_}
 use mathlib.Core.List.{List}
 use lib.ListN.{take}
-use Rattle.words.specs.Paper.{Paper}
-use Rattle.equivalence.specs.Verdicts.{Judged, judgementPaper}
-use Rattle.equivalence.specs.declared.Judgement.{Judgement}
+use Rattle.words.specs.Paper.{Paper, refusedWith}
+use Rattle.verdict.specs.Verdicts.{Judged, judgementPaper}
+use Rattle.verdict.specs.declared.Judgement.{Judgement}
 use Rattle.writer.specs.Write.{lentAfter}
 use Rattle.checker.specs.Check.{Checks}
 use Rattle.checker.specs.Check as checker
 use Rattle.checker.specs.declared.Checked.{Checked}
 use Rattle.deqhulov.specs.declared.paper.Report.{Report}
 
--- a report's number, place and values
+-- a report's refusal and values
 abbrev pub paper : Report → Paper
-paper r = record { number = r .number; place = r .place; values = take (r .count) (r .values) }
+paper r = refusedWith (r .refusal .number) (r .refusal .place) (take (r .count) (r .values))
 
 -- The number is what a call returns, the place what it stores; the values stand at the start of the words lent for them, which are
 -- left as they were where they are too few.

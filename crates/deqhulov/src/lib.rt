@@ -44,7 +44,7 @@ pub extern "C" fn deqhulov_check(
 pub extern "C" fn deqhulov_judge(word: u32, width: u32, place: &mut u64, values: &mut [u64]) -> u32
     ensures { λ r. ⌜ D.TellsJudgement word width r (now (place .exit)) (now (values .entry)) (now (values .exit)) ⌝ }
 {
-    let judgement = equivalence::judge(word, width);
+    let judgement = verdict::judge(word, width);
     let report = paper::of_judgement(judgement);
     paper::tell(report, place, values)
 }

@@ -1,26 +1,36 @@
 // Answers in document 01's numbers, and how they are told to a caller in another language.
 use checker::Checked;
-use equivalence::Judgement;
-use equivalence::Verdict;
 use mapper::Answer;
+use verdict::Judgement;
+use verdict::Verdict;
+use words::Refusal;
+use words::Witness;
 ghost use mathlib.Core.Path.{_≡_};
 ghost use Prim.Native.Nat.{_≤_};
 ghost use lib.ListN.{length};
 ghost use mathlib.Core.List.{[], _∷_};
-ghost use Rattle.words.specs.Paper.{refused, refusedWith};
+ghost use Rattle.words.specs.Paper.{refusedWith, told};
 ghost use Rattle.alu.specs.Bits.{num};
-ghost use Rattle.equivalence.specs.Verdicts as J;
+ghost use Rattle.verdict.specs.Verdicts as J;
 ghost use Rattle.writer.specs.Write as W;
 ghost use Rattle.mapper.specs.Mapping as M;
 ghost use Rattle.checker.specs.Check as C;
 ghost use Rattle.deqhulov.specs.Told as D;
 
-// A refusal's number, 0 for none; its place; and the values that come with the answer, at most four.
+// The most values that come with an answer.
+const MOST_VALUES: usize = 4;
+
+// No refusal.
+const NONE: Refusal = Refusal {
+    number: words::NO_REFUSAL,
+    place: 0,
+};
+
+// A refusal, or NONE, and the values that come with the answer.
 pub struct Report {
-    pub number: u32,
-    pub place: u64,
+    pub refusal: Refusal,
     pub count: usize,
-    pub values: [u64; 4],
+    pub values: [u64; MOST_VALUES],
 }
 
 fn number(b: bool) -> u64
@@ -29,38 +39,44 @@ fn number(b: bool) -> u64
     if b { 1 } else { 0 }
 }
 
-// Number, place and one value.
-fn with_value(number: u32, place: u64, value: u64) -> Report
-    ensures { λ r. ⌜ (D.paper r ≡ refusedWith number place (value ∷ [])) × (r .count ≤ length (r .values)) ⌝ }
+// A refusal and one value.
+fn with_value(refusal: Refusal, value: u64) -> Report
+    ensures { λ r. ⌜ (D.paper r ≡ refusedWith (refusal .number) (refusal .place) (value ∷ [])) × (r .count ≤ length (r .values)) ⌝ }
 {
     Report {
-        number,
-        place,
+        refusal,
         count: 1,
         values: [value, 0, 0, 0],
     }
 }
 
-fn refusal(number: u32, place: u64) -> Report
-    ensures { λ r. ⌜ (D.paper r ≡ refused number place) × (r .count ≤ length (r .values)) ⌝ }
+// A refusal without values.
+fn refused(refusal: Refusal) -> Report
+    ensures { λ r. ⌜ (D.paper r ≡ told refusal) × (r .count ≤ length (r .values)) ⌝ }
 {
     Report {
-        number,
-        place,
+        refusal,
         count: 0,
         values: [0, 0, 0, 0],
     }
 }
 
 // Refusal 10: the port, the operands and the carry.
-fn wrong(function: u32, port: u32, left: u64, right: u64, carry: bool) -> Report
-    ensures { λ r. ⌜ (D.paper r ≡ refusedWith 10 function (port ∷ left ∷ right ∷ num carry ∷ [])) × (r .count ≤ length (r .values)) ⌝ }
+fn wrong(witness: Witness) -> Report
+    ensures { λ r. ⌜ (D.paper r ≡ J.wrongPaper witness) × (r .count ≤ length (r .values)) ⌝ }
 {
     Report {
-        number: 10,
-        place: function as u64,
-        count: 4,
-        values: [port as u64, left, right, number(carry)],
+        refusal: Refusal {
+            number: 10,
+            place: witness.function as usize,
+        },
+        count: MOST_VALUES,
+        values: [
+            witness.port as u64,
+            witness.left,
+            witness.right,
+            number(witness.carry),
+        ],
     }
 }
 
@@ -69,8 +85,8 @@ pub fn of_mapping(answer: Answer) -> Report
     ensures { λ r. ⌜ (D.paper r ≡ M.paperOf answer) × (r .count ≤ length (r .values)) ⌝ }
 {
     match answer {
-        Answer::Mapping(words) => with_value(0, 0, words as u64),
-        Answer::Refused { number, place } => refusal(number, place as u64),
+        Answer::Mapping(words) => with_value(NONE, words as u64),
+        Answer::Refused(refusal) => refused(refusal),
     }
 }
 
@@ -79,32 +95,20 @@ pub fn of_check(checked: Checked) -> Report
     ensures { λ r. ⌜ (D.paper r ≡ C.paperOf checked) × (r .count ≤ length (r .values)) ⌝ }
 {
     match checked {
-        Checked::Accepted => refusal(0, 0),
-        Checked::JobRefused { number, place } => with_value(number, place as u64, 0),
-        Checked::MappingRefused { number, place } => with_value(number, place as u64, 1),
-        Checked::Refused { number, place } => refusal(number, place as u64),
-        Checked::Wrong {
-            function,
-            port,
-            left,
-            right,
-            carry,
-        } => wrong(function, port, left, right, carry),
+        Checked::Accepted => refused(NONE),
+        Checked::JobRefused(refusal) => with_value(refusal, 0),
+        Checked::MappingRefused(refusal) => with_value(refusal, 1),
+        Checked::Refused(refusal) => refused(refusal),
+        Checked::Wrong(witness) => wrong(witness),
     }
 }
 
 fn of_verdict(verdict: Verdict) -> Report
-    ensures { λ r. ⌜ (D.paper r ≡ J.paperOf verdict) × (r .count ≤ length (r .values)) ⌝ }
+    ensures { λ r. ⌜ (D.paper r ≡ J.verdictPaper verdict) × (r .count ≤ length (r .values)) ⌝ }
 {
     match verdict {
-        Verdict::Right => refusal(0, 0),
-        Verdict::Wrong {
-            function,
-            port,
-            left,
-            right,
-            carry,
-        } => wrong(function, port, left, right, carry),
+        Verdict::Right => refused(NONE),
+        Verdict::Wrong(witness) => wrong(witness),
     }
 }
 
@@ -114,7 +118,7 @@ pub fn of_judgement(judgement: Judgement) -> Report
 {
     match judgement {
         Judgement::Decided(verdict) => of_verdict(verdict),
-        Judgement::Refused { number, place } => refusal(number, place as u64),
+        Judgement::Refused(refusal) => refused(refusal),
     }
 }
 
@@ -137,9 +141,10 @@ pub fn tell(report: Report, place: &mut u64, lent: &mut [u64]) -> u32
     requires { ⌜ report .count ≤ length (report .values) ⌝ }
     ensures { λ r. ⌜ D.Told (D.paper report) r (now (place .exit)) (now (lent .entry)) (now (lent .exit)) ⌝ }
 {
-    *place = report.place;
+    let refusal = report.refusal;
+    *place = refusal.place as u64;
     let values = report.values;
     let count = report.count;
     put_values(&values[..count], lent);
-    report.number
+    refusal.number
 }

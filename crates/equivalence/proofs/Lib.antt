@@ -3,6 +3,3 @@ pub mod Places
 pub mod Sets
 pub mod Walks
 pub mod Found
-pub mod Verdicting
-pub mod EveryWidth
-pub mod Starred

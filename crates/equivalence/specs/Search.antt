@@ -1,6 +1,6 @@
 -- The search for operands at which a recipe fails: tables of what happens at one place, sets of failing states from the top place
 -- down, and a walk from the lowest place up.
--- Nothing here has to be believed: the proofs show that what it finds is what Verdicts.antt says.
+-- Nothing here has to be believed: the proofs show that what it finds is what Verdicts.antt of the crate verdict says.
 use Prim.Native.Nat.{ℕ, zero, suc, _+_, _-_, _*_, _/_, _%_, _^_, _≤_, _<_}
 use mathlib.Core.Bool.{Bool, true, false, _||_}
 use lib.Dec.{eqb, ltb, leb}

@@ -1,18 +1,15 @@
 // Compares the evaluator with the reference: document 01's cases that carry no star, corner operands, random operands and values out
 // of range. A line for each group says how many inputs were compared and at how many of them the two differ; before it, where any do,
 // stands the first. The program is a test, so its contracts say only what safety needs.
-mod cases;
-mod corners;
-mod random;
+mod beside;
+mod groups;
 mod ranges;
-mod tally;
 
-use cases::at_width;
-use cases::vectors;
-use corners::corners;
-use random::random;
+use groups::at_width;
+use groups::turns;
+use groups::vectors;
 use ranges::first_out_at;
-use tally::report;
+use reference::say::report;
 
 // By the first place that is out of range.
 fn report_ranges() {
@@ -28,7 +25,7 @@ fn main() {
     report(b"width 64 accepted", at_width(64, 5));
     report(b"width 65 refused", at_width(65, 1));
     report(b"vectors of Table 4", vectors());
-    report(b"corner operands", corners());
-    report(b"random operands", random());
+    report(b"corner operands", turns(0, 169344));
+    report(b"random operands", turns(169344, 1206144));
     report_ranges();
 }

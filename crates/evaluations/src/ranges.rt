@@ -1,11 +1,10 @@
 // Values out of range at each of the five places, alone and together. Each place has five values, of which the last three are out of
 // range, and every choice of five is tried.
-use crate::corners::ones;
-use crate::tally::Given;
-use crate::tally::Tally;
-use crate::tally::compare;
-use crate::tally::empty;
-ghost use Prim.Native.Nat.{_≤_, _<_};
+use crate::beside::Given;
+use crate::beside::agree;
+use crate::beside::counted;
+use reference::Tally;
+use reference::ones;
 
 const FUNCTIONS: [u32; 5] = [1, 27, 0, 28, 4294967295];
 
@@ -14,25 +13,15 @@ const WIDTHS: [u32; 5] = [1, 63, 0, 65, 4294967295];
 const CARRIES: [u32; 5] = [0, 1, 2, 3, 4294967295];
 
 // The width that the operands are made for; 8 where the width itself is out of range.
-fn bits(k: u32) -> u32
-    ensures { λ r. ⌜ (1 ≤ r) × (r < 64) ⌝ }
-{
-    match k {
-        0 => 1,
-        1 => 63,
-        _ => 8,
-    }
-}
+const BITS: [u32; 5] = [1, 63, 8, 8, 8];
 
 // An operand: of the five values of each, two have n bits and three have more.
-fn operand(n: u32, k: u32) -> u64
-    requires { ⌜ (1 ≤ n) × (n < 64) ⌝ }
-{
+fn operand(n: u32, k: u32) -> u64 {
     match k {
         0 => 0,
         1 => ones(n),
-        2 => 1u64 << n,
-        3 => (1u64 << n) | 1,
+        2 => 1u64 << (n % 64),
+        3 => (1u64 << (n % 64)) | 1,
         _ => 0xffff_ffff_ffff_ffff,
     }
 }
@@ -42,7 +31,7 @@ fn choice(i: u32) -> Given {
     let function = i % 5;
     let width = i / 5 % 5;
     let carry = i / 625 % 5;
-    let n = bits(width);
+    let n = BITS[width as usize];
     Given {
         function: FUNCTIONS[function as usize],
         width: WIDTHS[width as usize],
@@ -53,7 +42,7 @@ fn choice(i: u32) -> Given {
 }
 
 // The first place at which the i-th choice is out of range, or 5.
-fn first_place(i: u32) -> u32 {
+fn first_place(i: u32) -> usize {
     if 2 <= i % 5 {
         return 0;
     }
@@ -72,19 +61,16 @@ fn first_place(i: u32) -> u32 {
     5
 }
 
-fn tried(tally: Tally, i: u32, place: u32) -> Tally {
-    if first_place(i) == place {
-        return compare(tally, choice(i), place);
-    }
-    tally
-}
-
 // All choices that are first out of range at a place; at 5, all that are in range.
-pub fn first_out_at(place: u32) -> Tally {
-    let mut tally = empty();
+pub fn first_out_at(place: usize) -> Tally {
+    let mut tally = reference::none();
     let mut i = 0;
     while i < 3125 {
-        tally = tried(tally, i, place);
+        if first_place(i) == place {
+            let given = choice(i);
+            let next = counted(tally, given, agree(given, place));
+            tally = next;
+        }
         i += 1;
     }
     tally

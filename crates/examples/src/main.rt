@@ -1,6 +1,8 @@
 // Maps the jobs of the examples and checks their mappings. Each file is a text of words in hexadecimal digits.
+use console::KEPT_WORDS;
 use libc::STDOUT_FILENO;
 use mapper::Answer;
+use reader::MOST_MAPPING_WORDS;
 use text::hex::Hex;
 use text::hex::Step;
 ghost use Prim.Native.Nat.{_+_, _≤_, _<_};
@@ -89,15 +91,15 @@ fn print_answer(answer: Answer, lent: &[u32]) {
                 console::print_mapped(&lent[..count]);
             }
         }
-        Answer::Refused { number, place } => console::print_refused(number, place),
+        Answer::Refused(refusal) => console::print_refused(refusal),
     }
 }
 
 // Maps a job.
 fn map(path: &[u8]) {
-    let mut job = [0u32; 569];
+    let mut job = [0u32; KEPT_WORDS];
     let kept = read_words(path, &mut job);
-    let mut lent = [0u32; 29];
+    let mut lent = [0u32; MOST_MAPPING_WORDS];
     let answer = mapper::map(&job[..kept], &mut lent);
     say(b"map ");
     say(path);
@@ -107,9 +109,9 @@ fn map(path: &[u8]) {
 
 // Checks a mapping against its job.
 fn check(path: &[u8], mapping_path: &[u8]) {
-    let mut job = [0u32; 569];
+    let mut job = [0u32; KEPT_WORDS];
     let kept = read_words(path, &mut job);
-    let mut mapping = [0u32; 569];
+    let mut mapping = [0u32; KEPT_WORDS];
     let bound = read_words(mapping_path, &mut mapping);
     say(b"check ");
     say(path);

@@ -9,9 +9,10 @@ use native.Mathlib.Omega.{arith}
 use lib.Dec.{leb}
 use lib.ListN.{length}
 use Rattle.words.specs.Choice.{if_then_else_}
+use Rattle.words.specs.declared.Prices.{Prices}
 use Rattle.alu.specs.Bits.{num, bit}
-use Rattle.glue.specs.Glue.{InUse, InRange, some, distinct, steps, wirings, complements, carryIn, mainOutput, carryOut, codePrice, pricesOf, comparison, comparisonCodes, scratch, countOf, glue, inUse, wiringCodes, carryCodes, outputCodes, minterms, NOT-SI0, NOT-SI1, NOT-SICIN, NOT-TO0, NOT-TOCOUT}
-use Rattle.glue.specs.declared.Prices.{Prices}
+use Rattle.glue.specs.Glue.{InUse, some, distinct, steps, wirings, complements, carryIn, mainOutput, carryOut, codePrice, codesCount, comparison, comparisonCodes, scratch, countOf, glue, inUse, wiringCodes, carryCodes, outputCodes, minterms, NOT-SI0, NOT-SI1, NOT-SICIN, NOT-TO0, NOT-TOCOUT}
+use Rattle.glue.specs.Asked.{InRange}
 
 num-most : (b : Bool) → num b ≤ 1
 num-most true = omega arith
@@ -31,12 +32,12 @@ when-most : (b : Bool) {x : ℕ} (most : ℕ) → x ≤ most → (if b then x el
 when-most true most h = h
 when-most false most h = omega arith
 
--- the prices of all listed codes
-prices-most : (price : ℕ → ℕ) (used : ℕ → Bool) (ks : List ℕ) → pricesOf price used ks ≤ pricesOf price (λ k. true) ks
-unfolding pricesOf
-prices-most price used [] = omega arith
-prices-most price used (k ∷ ks) =
-    let h = prices-most price used ks in omega (arith, when-most (used k) (price k) (le-refl (price k)))
+-- at most the prices of all listed codes
+all-listed : (price : ℕ → ℕ) (used : ℕ → Bool) (ks : List ℕ) → codesCount price used ks ≤ codesCount price (λ k. true) ks
+unfolding codesCount
+all-listed price used [] = omega arith
+all-listed price used (k ∷ ks) =
+    let h = all-listed price used ks in omega (arith, when-most (used k) (price k) (le-refl (price k)))
 
 module _ (p : Prices) (g : InRange p) where
   multiplexers : (used : ℕ → Bool) (ks : List ℕ) → steps (distinct used ks) * p .multiplexer ≤ (length ks - 1) * 255
@@ -64,10 +65,10 @@ module _ (p : Prices) (g : InRange p) where
     inverters : (b : Bool) → (if b then n * p .inverter else 0) ≤ 64 * 255
     inverters b = when-most b (64 * 255) (mul-le-mul h (g .inverter-fits))
 
-    pub code-prices-most : (used : ℕ → Bool) → pricesOf (codePrice n p) used comparisonCodes ≤ 149940
-    unfolding pricesOf codePrice
-    code-prices-most used =
-        le-trans (prices-most (codePrice n p) used comparisonCodes)
+    pub codes-count-most : (used : ℕ → Bool) → codesCount (codePrice n p) used comparisonCodes ≤ 149940
+    unfolding codesCount codePrice
+    codes-count-most used =
+        le-trans (all-listed (codePrice n p) used comparisonCodes)
         (omega (arith, gates (n - 1) 63 (omega arith), gates n 64 h, gates (n + 1) 65 (omega arith)))
 
     module _ (u : InUse) where
@@ -94,7 +95,7 @@ module _ (p : Prices) (g : InRange p) where
 
       pub comparison-most : comparison n p u ≤ 153510
       unfolding comparison
-      comparison-most = add-le-add (multiplexers (u .code) comparisonCodes) (code-prices-most (u .code))
+      comparison-most = add-le-add (multiplexers (u .code) comparisonCodes) (codes-count-most (u .code))
 
       pub scratch-most : scratch n p u ≤ 212160
       unfolding scratch
@@ -125,15 +126,15 @@ dearest : glue 64 (record { inverter = 255; gate = 255; multiplexer = 255 })
     0x6086D685 ∷ 0x60840946 ∷ 0x60849E87 ∷ 0x60852148 ∷
     0x6085B689 ∷ 0x6086494A ∷ 0x6086DE8B ∷ 0x6084014C ∷
     0x6084968D ∷ 0x6085294E ∷ 0x6085BE8F ∷ 0x6380000F ∷ []) ≡ 612000
-unfolding glue some distinct wirings complements carryIn mainOutput carryOut codePrice pricesOf comparison scratch bit
+unfolding glue some distinct wirings complements carryIn mainOutput carryOut codePrice codesCount comparison scratch bit
 dearest = refl
 
 -- the mapping of the printed job
 printed : glue 16 (record { inverter = 1; gate = 1; multiplexer = 3 }) (0x60854960 ∷ 0x6185C960 ∷ 0x64000001 ∷ 0x6C89440C ∷ []) ≡ 148
-unfolding glue some distinct wirings complements carryIn mainOutput carryOut codePrice pricesOf comparison scratch bit
+unfolding glue some distinct wirings complements carryIn mainOutput carryOut codePrice codesCount comparison scratch bit
 printed = refl
 
 -- no bindings
 pub glue-none : (n : ℕ) (p : Prices) → glue n p [] ≡ 0
-unfolding glue some distinct wirings complements carryIn mainOutput carryOut codePrice pricesOf comparison scratch
+unfolding glue some distinct wirings complements carryIn mainOutput carryOut codePrice codesCount comparison scratch
 glue-none n p = omega arith

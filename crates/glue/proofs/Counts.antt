@@ -1,6 +1,6 @@
 -- What the code of the count rests on: codes counted by their bits, and amounts that fit.
 use mathlib.Core.Path.{_≡_, refl, sym, ap, ap₂, _∙_}
-use mathlib.Core.Bool.{Bool, true, false, _||_}
+use mathlib.Core.Bool.{Bool}
 use mathlib.Core.List.{[], _∷_}
 use Prim.Native.Nat.{ℕ, zero, suc, _+_, _-_, _*_, _/_, _%_, _^_, _≤_, _<_}
 use native.Mathlib.Nat.{mod-lt, mod-one, zero-lt-suc, mul-le-mul, le-of-suc-le-suc}
@@ -12,16 +12,15 @@ use lib.Count.{ones, ones-step}
 use lib.Dec.{eqb}
 use lib.ListN.{length, getD}
 use lib.Pow.{pow-pos, shr-shr, mod-mod-pow, field as cut-shr}
-use borrow.Author.Tests.{le-leb, lt-leb}
 use Rattle.words.specs.Choice.{if_then_else_}
+use Rattle.words.specs.declared.Prices.{Prices}
 use Rattle.alu.specs.Bits.{num, bit}
 use Rattle.alu.specs.Asked.{Width}
-use Rattle.glue.specs.Glue.{countOf, wirings, complements, carryIn, carryOut, comparison, distinct, mainOutput, scratch, minterms, codePrice, pricesOf, comparisonCodes, InRange}
-use Rattle.glue.specs.Sets.{codes, partsOf, used, priceOf}
-use Rattle.glue.specs.declared.Prices.{Prices}
-use Rattle.glue.specs.declared.count.Parts.{Parts}
-use Rattle.glue.proofs.Bounds.{distinct-most, code-prices-most}
-use Rattle.glue.proofs.Places.{one-shifted}
+use Rattle.usage.proofs.Bits.{one-shifted}
+use Rattle.glue.specs.Glue.{distinct, codePrice, codesCount, comparisonCodes}
+use Rattle.glue.specs.Asked.{InRange}
+use Rattle.glue.specs.Parts.{codes}
+use Rattle.glue.proofs.Bounds.{distinct-most, codes-count-most}
 
 -- ---- codes counted by their bits
 
@@ -80,39 +79,20 @@ module _ (x p : ℕ) (h : x ≤ 4096) (g : p < 256) where
   product-fits = omega (arith, product-most)
 
 module _ (x y : ℕ) (h : x ≤ 64) (g : y ≤ 64) where
-  pub places-most : x * y ≤ 4096
-  places-most = mul-le-mul h g
+  pub times-most : x * y ≤ 4096
+  times-most = mul-le-mul h g
 
-  pub places-fit : Fits w32 (x * y)
-  places-fit = omega (arith, places-most)
+  pub times-fit : Fits w32 (x * y)
+  times-fit = omega (arith, times-most)
 
 -- what equals a line is at most what the line is
 pub bounded : {x y : ℕ} (most : ℕ) → x ≡ y → y ≤ most → (x ≡ y) × (x ≤ most)
 bounded most e h = (e, omega arith)
 
--- ---- lines whose code does not follow the definition word by word
+-- ---- the prices of the comparison codes
 
-pub num-if : (b : Bool) → (if b then 1 else 0) ≡ num b
-num-if true = refl
-num-if false = refl
-
-module _ (n : ℕ) (p : Prices) (q : Parts) where
-  pub no-minterm : (d : ℕ) → d < 1 → (d ≡ distinct (bit (q .minterms)) (codes 0 4)) × (d ≤ 4) → 0 ≡ scratch n p (used q)
-  unfolding scratch
-  no-minterm d h ed = rw (lt-leb 1 (distinct (bit (q .minterms)) minterms) (rw (ed .0) at h)) refl
-
-  pub some-minterms : (x y z a d : ℕ) (b c e : Bool)
-      → (z ≡ (if b || e then a else 0)) × (z ≤ a) → b ≡ bit (q .minterms) 3 → e ≡ bit (q .minterms) 1
-      → (y ≡ (if b || c then a else 0)) × (y ≤ a) → c ≡ bit (q .minterms) 2
-      → (a ≡ n * p .inverter) × (a ≤ 1044480) → (x ≡ n * (3 * d - 1) * p .gate) × (x ≤ 1044480)
-      → 1 ≤ d → (d ≡ distinct (bit (q .minterms)) (codes 0 4)) × (d ≤ 4) → x + y + z ≡ scratch n p (used q)
-  unfolding scratch
-  some-minterms x y z a d b c e ez eb ee ey ec ea ex h ed =
-      rw (le-leb 1 (distinct (bit (q .minterms)) minterms) (rw (ed .0) at h))
-      ((λ i. ex .0 i + ey .0 i + ez .0 i)
-      ∙ (λ i. n * (3 * ed .0 i - 1) * p .gate + (if eb i || ec i then ea .0 i else 0) + (if eb i || ee i then ea .0 i else 0)))
-
-  -- the table of the comparison codes' prices
+module _ (n : ℕ) (p : Prices) where
+  -- the code's table
   pub code-table : (x y z : ℕ) → (x ≡ (n - 1) * p .gate) × (x ≤ 1044480) → (y ≡ n * p .gate) × (y ≤ 1044480)
       → (z ≡ (n + 1) * p .gate) × (z ≤ 1044480) → (k : ℕ) →
       getD
@@ -131,44 +111,33 @@ codes-next k h =
 
 module _ (n : ℕ) (p : Prices) (part k t : ℕ) where
   abbrev from : ℕ → ℕ
-  from j = pricesOf (codePrice n p) (bit part) (codes j (16 - j))
+  from j = codesCount (codePrice n p) (bit part) (codes j (16 - j))
 
   module _ (whole : ℕ) (e : t + from k ≡ whole) where
     pub next-code : (b : Bool) (x y : ℕ) → k < 16 → b ≡ bit part k → x ≡ codePrice n p k → (y ≡ (if b then x else 0)) × (y ≤ x)
         → t + y + from (k + 1) ≡ whole
-    unfolding pricesOf
+    unfolding codesCount
     next-code b x y h eb ex ey =
         let z : y ≡ (if bit part k then codePrice n p k else 0) = ey .0 ∙ (λ i. if eb i then ex i else 0) in
         let o : t + ((if bit part k then codePrice n p k else 0) + from (k + 1)) ≡ whole = rw (codes-next k h) at e in
         omega arith
 
     pub all-codes : 16 ≤ k → t ≡ whole
-    unfolding pricesOf
+    unfolding codesCount
     all-codes h =
         let z : 16 - k ≡ 0 = omega arith in
         let o : t + 0 ≡ whole = rw z at e in
         omega arith
 
-  pub codes-most : 16 ≤ k → t + from k ≡ pricesOf (codePrice n p) (bit part) comparisonCodes → Width n → InRange p → t ≤ 149940
+  pub codes-most : 16 ≤ k → t + from k ≡ codesCount (codePrice n p) (bit part) comparisonCodes → Width n → InRange p → t ≤ 149940
   codes-most h e w g =
-      omega (arith, all-codes (pricesOf (codePrice n p) (bit part) comparisonCodes) e h, code-prices-most p g n (w .most) (bit part))
+      omega (arith, all-codes (codesCount (codePrice n p) (bit part) comparisonCodes) e h, codes-count-most p g n (w .most) (bit part))
 
   pub codes-fit : (b : Bool) (x y : ℕ) → k < 16 → b ≡ bit part k → x ≡ codePrice n p k → (y ≡ (if b then x else 0)) × (y ≤ x)
-      → t + from k ≡ pricesOf (codePrice n p) (bit part) comparisonCodes → Width n → InRange p → Fits w32 (t + y)
+      → t + from k ≡ codesCount (codePrice n p) (bit part) comparisonCodes → Width n → InRange p → Fits w32 (t + y)
   codes-fit b x y h eb ex ey e w g =
       omega (
         arith,
-        next-code (pricesOf (codePrice n p) (bit part) comparisonCodes) e b x y h eb ex ey,
-        code-prices-most p g n (w .most) (bit part),
+        next-code (codesCount (codePrice n p) (bit part) comparisonCodes) e b x y h eb ex ey,
+        codes-count-most p g n (w .most) (bit part),
       )
-
--- ---- the lines together
-
-pub lines-sum : (n s : ℕ) (p : Prices) (q : Parts) (x y z u v w t : ℕ) → q ≡ partsOf s
-    → x ≡ wirings n p (used q) → y ≡ complements n p (used q) → z ≡ carryIn p (used q)
-    → u ≡ mainOutput n p (used q) → v ≡ carryOut p (used q) → w ≡ comparison n p (used q) → t ≡ scratch n p (used q)
-    → x + y + z + (u + v + w) + t ≡ priceOf n p s
-unfolding priceOf
-lines-sum n s p q x y z u v w t e ex ey ez eu ev ew et =
-    let whole : x + y + z + (u + v + w) + t ≡ countOf n p (used q) = omega arith in
-    whole ∙ ap (λ (r : Parts). countOf n p (used r)) e

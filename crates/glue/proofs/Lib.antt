@@ -1,4 +1,4 @@
-pub mod Places
 pub mod Joining
 pub mod Bounds
 pub mod Counts
+pub mod Lines

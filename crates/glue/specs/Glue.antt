@@ -1,14 +1,14 @@
 -- Document 01, "Glue count". The words are rules or bindings: only their fields matter.
-use Prim.Native.Nat.{ℕ, _+_, _-_, _*_, _≤_}
+use Prim.Native.Nat.{ℕ, _+_, _-_, _*_}
 use mathlib.Core.Bool.{Bool, false, not, _&&_, _||_}
 use mathlib.Core.List.{List, [], _∷_}
 use lib.Dec.{eqb, leb}
 use lib.ListN.{getD}
 use Rattle.words.specs.Choice.{if_then_else_}
+use Rattle.words.specs.declared.Prices.{Prices}
 use Rattle.alu.specs.Bits.{num, bit}
-use Rattle.recipe.specs.Fields.{targetOf, vectorOf, fieldsOf}
+use Rattle.recipe.specs.Fields.{fromScratch, vectorOf, fieldsOf}
 use Rattle.recipe.specs.declared.Fields.{Fields}
-use Rattle.glue.specs.declared.Prices.{Prices}
 
 -- ---- what is in use
 
@@ -16,9 +16,6 @@ use Rattle.glue.specs.declared.Prices.{Prices}
 unfoldable pub some : (ℕ → Bool) → List ℕ → Bool
 some test [] = false
 some test (w ∷ ws) = test w || some test ws
-
-abbrev pub fromScratch : ℕ → Bool
-fromScratch w = eqb (targetOf w) 0
 
 -- "Wirings and carry in count every binding with a target, whether the target reads them or not, and no scratch binding"; nor
 -- does a scratch binding have an output code
@@ -100,12 +97,6 @@ NOT-TOCOUT = 2
 
 -- ---- the count, line by line: width n, prices a = inverter, b = gate, m = multiplexer
 
--- "prices, 0 to 255"
-pub record InRange (p : Prices) : Type 0 where
-  pub inverter-fits : p .inverter ≤ 255
-  pub gate-fits : p .gate ≤ 255
-  pub multiplexer-fits : p .multiplexer ≤ 255
-
 -- "Left, right: steps × n × m each."
 unfoldable pub wirings : ℕ → Prices → InUse → ℕ
 wirings n p u =
@@ -159,14 +150,14 @@ unfoldable pub codePrice : ℕ → Prices → ℕ → ℕ
 codePrice n p k = getD (codePrices n (p .inverter) (p .gate)) k 0
 
 -- the prices of the listed codes that are in use
-unfoldable pub pricesOf : (ℕ → ℕ) → (ℕ → Bool) → List ℕ → ℕ
-pricesOf price used [] = 0
-pricesOf price used (k ∷ ks) = (if used k then price k else 0) + pricesOf price used ks
+unfoldable pub codesCount : (ℕ → ℕ) → (ℕ → Bool) → List ℕ → ℕ
+codesCount price used [] = 0
+codesCount price used (k ∷ ks) = (if used k then price k else 0) + codesCount price used ks
 
 -- "Comparison: steps × m, and for each distinct code" its price
 unfoldable pub comparison : ℕ → Prices → InUse → ℕ
 comparison n p u =
-    steps (distinct (u .code) comparisonCodes) * p .multiplexer + pricesOf (codePrice n p) (u .code) comparisonCodes
+    steps (distinct (u .code) comparisonCodes) * p .multiplexer + codesCount (codePrice n p) (u .code) comparisonCodes
 
 -- "Scratch: with t minterms in the union of the vectors, t ≥ 1: n × (3t−1) × b (minterm, control gate, joining), plus n × a if
 -- bit 3 or 2 is in the union, and n × a if bit 3 or 1 is."

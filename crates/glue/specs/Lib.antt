@@ -1,2 +1,3 @@
 pub mod Glue
-pub mod Sets
+pub mod Parts
+pub mod Asked

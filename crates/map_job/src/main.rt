@@ -3,6 +3,8 @@
 use libc::STDERR_FILENO;
 use libc::STDIN_FILENO;
 use mapper::Answer;
+use reader::MOST_MAPPING_WORDS;
+use words::Refusal;
 
 fn write_words(fd: i32, words: &[u32]) {
     let mut i = 0;
@@ -35,15 +37,15 @@ fn report(words: &[u32]) {
 }
 
 fn map(job: &[u32]) {
-    let mut lent = [0u32; 29];
+    let mut lent = [0u32; MOST_MAPPING_WORDS];
     let answer = mapper::map(job, &mut lent);
     match answer {
         Answer::Mapping(count) => {
-            if count <= 29 {
+            if count <= MOST_MAPPING_WORDS {
                 report(&lent[..count]);
             }
         }
-        Answer::Refused { number, place } => console::print_refused(number, place),
+        Answer::Refused(refusal) => console::print_refused(refusal),
     }
 }
 
@@ -52,14 +54,17 @@ fn main() {
         io::write_all(STDERR_FILENO, b"usage: map_job [FILE] < JOB\n");
         return;
     }
-    let mut job = [0u32; 569];
+    let mut job = [0u32; console::KEPT_WORDS];
     let input = console::read_words(STDIN_FILENO, &mut job);
     if input.failed {
         os::fail(b"standard input");
         return;
     }
     if input.cut {
-        console::print_refused(2, input.whole);
+        console::print_refused(Refusal {
+            number: 2,
+            place: input.whole,
+        });
         return;
     }
     let kept = input.kept;

@@ -1,42 +1,42 @@
 -- The mapper's answer and the lent words, from the choice.
-use mathlib.Core.Path.{_≡_, refl, sym, ap, ap₂, _∙_, subst}
+use mathlib.Core.Path.{_≡_, refl, sym, ap, _∙_, subst}
 use mathlib.Core.Bool.{Bool, true, false, not}
 use mathlib.Core.List.{List, [], _∷_}
 use Prim.Native.Nat.{ℕ, _+_, _-_, _^_, _≤_, _<_}
 use native.Mathlib.Omega.{arith}
 use borrow.Author.Tests.{not-true, not-false}
-use lib.ListN.{length, take, drop, length-take, length-drop}
+use lib.ListN.{length, take, drop, length-drop}
 use lib.Seq.{length-take-le}
 use Rattle.words.specs.Choice.{if_then_else_}
-use Rattle.words.proofs.Lists.{part-from}
 use Rattle.alu.specs.Asked.{Width}
-use Rattle.reader.specs.Kinds.{mostSources}
-use Rattle.reader.specs.Job.{jobOf, targetsStart, rulesStart}
+use Rattle.words.specs.Paper.{refusal}
+use Rattle.words.specs.declared.Refusal.{Refusal}
+use Rattle.reader.specs.Limits.{mostSources, sourcesStart}
+use Rattle.reader.specs.Job.{jobOf, WellFormedJob}
 use Rattle.reader.specs.declared.Job.{Job}
 use Rattle.reader.specs.declared.JobRead.{JobRead}
 use Rattle.reader.specs.declared.JobRead.the-variants as read
-use Rattle.reader.proofs.JobWords.{WellformedJob, well-formed}
-use Rattle.table.specs.Table.{sourcesOf, targetsOf, rulesOf}
+use Rattle.wellformed.proofs.JobWords.{JobFacts, well-formed}
+use Rattle.table.specs.Parts.{sourcesOf, targetsOf, rulesOf, termsWith}
 use Rattle.glue.specs.Glue.{glue}
-use Rattle.glue.specs.Sets.{usage, priceOf}
-use Rattle.glue.specs.declared.Prices.{Prices}
+use Rattle.usage.specs.Sets.{usage}
+use Rattle.glue.specs.Parts.{setCount}
 use Rattle.glue.proofs.Joining.{price-is-glue}
-use Rattle.pricer.specs.Pricing.{pricesOf}
 use Rattle.writer.specs.Asked.{Writable}
 use Rattle.writer.specs.Write.{mappingWords, writtenOf, lentAfter}
 use Rattle.writer.specs.declared.Written.{Written}
-use Rattle.writer.specs.declared.Written.the-variants.{Words, TooFew}
+use Rattle.writer.specs.declared.Written.the-variants as written
 use Rattle.mapper.specs.Choose.{Choice, Mapped, Unmappable, choose}
-use Rattle.mapper.specs.Chosen.{keptAs, Kept, Bound}
+use Rattle.mapper.specs.Chosen.{keptAs, KeptChoice, Bound}
 use Rattle.mapper.specs.Mapping.{choiceOf, chosenWords, answerTo, answerFor, answerOf, lentTo, lentFor, lentOf}
 use Rattle.mapper.specs.declared.choose.Chosen.{Chosen}
 use Rattle.mapper.specs.declared.Answer.{Answer}
 use Rattle.mapper.specs.declared.Answer.the-variants.{Mapping, Refused}
 
--- ---- the parts of a job's words, as the code hands them on
+-- ---- the parts of a job's words
 
-module _ (ws : List ℕ) (job : Job) (e : jobOf ws ≡ read.Accepted job) where
-  facts : WellformedJob ws job
+module _ (ws : List ℕ) (job : Job) (e : WellFormedJob ws job) where
+  facts : JobFacts ws job
   facts = well-formed ws job e
 
   pub job-width : Width (job .width)
@@ -45,37 +45,19 @@ module _ (ws : List ℕ) (job : Job) (e : jobOf ws ≡ read.Accepted job) where
   pub few-sources : job .sources ≤ mostSources
   few-sources = facts .sources-most
 
-  pub targets-inside : (t : ℕ) → t ≡ targetsStart job → t ≤ length ws
-  targets-inside t et = omega (arith, facts .size)
-
-  pub rules-inside : (r : ℕ) → r ≡ rulesStart job → r ≤ length ws
-  rules-inside r er = omega (arith, facts .size)
-
   pub sources-length : length (sourcesOf ws job) ≡ job .sources
-  sources-length = length-take-le (job .sources) (drop 2 ws) (omega (arith, length-drop 2 ws, facts .size))
+  sources-length =
+      length-take-le (job .sources) (drop sourcesStart ws) (omega (arith, length-drop sourcesStart ws, facts .size))
 
-  module _ (t : ℕ) (et : t ≡ targetsStart job) where
-    sources-are : take (t - 2) (drop 2 ws) ≡ sourcesOf ws job
-    sources-are = let k : t - 2 ≡ job .sources = omega arith in ap (λ (x : ℕ). take x (drop 2 ws)) k
+  module _ (ss ts rs : List ℕ) (es : ss ≡ sourcesOf ws job) (et : ts ≡ targetsOf ws job) (er : rs ≡ rulesOf ws job) where
+    pub sources-few : length ss ≤ mostSources
+    sources-few = omega (arith, ap length es ∙ sources-length, facts .sources-most)
 
-    pub sources-few : length (take (t - 2) (drop 2 ws)) ≤ mostSources
-    sources-few = omega (arith, ap length sources-are ∙ sources-length, facts .sources-most)
-
-    module _ (r : ℕ) (er : r ≡ rulesStart job) where
-      targets-are : take (r - t) (drop t ws) ≡ targetsOf ws job
-      targets-are = let k : r - t ≡ job .targets = omega arith in ap₂ (λ (x y : ℕ). take x (drop y ws)) k et
-
-      rules-are : take (length ws - r) (drop r ws) ≡ rulesOf ws job
-      rules-are = part-from r ws ∙ ap (λ (x : ℕ). drop x ws) er
-
-      pub kept-choice : (c : Chosen) (p : Prices) → p ≡ pricesOf job
-          → Kept c (length (take (t - 2) (drop 2 ws)))
-          (choose (job .width) p (take (r - t) (drop t ws)) (take (length ws - r) (drop r ws)) [] (take (t - 2) (drop 2 ws)))
-          → Kept c (job .sources) (choiceOf ws job)
-      kept-choice c p ep k =
-          subst (λ (m : ℕ). Kept c m (choiceOf ws job)) (ap length sources-are ∙ sources-length)
-          (subst (Kept c (length (take (t - 2) (drop 2 ws))))
-          (λ i. choose (job .width) (ep i) (targets-are i) (rules-are i) [] (sources-are i)) k)
+    pub kept-choice : (c : Chosen) → KeptChoice c (length ss) (choose (termsWith job ss ts) rs [] ss)
+        → KeptChoice c (job .sources) (choiceOf ws job)
+    kept-choice c k =
+        subst (λ (m : ℕ). KeptChoice c m (choiceOf ws job)) (ap length es ∙ sources-length)
+        (subst (KeptChoice c (length ss)) (λ i. choose (termsWith job (es i) (et i)) (er i) [] (es i)) k)
 
 -- ---- the writing
 
@@ -86,16 +68,16 @@ module _ (job : Job) (c : Chosen) (b : Bound job c) where
   pub bound-length : job .sources ≡ length (take (job .sources) (c .words))
   bound-length = sym (length-take-le (job .sources) (c .words) sources-within)
 
-  pub writable : (p : Prices) (count : ℕ) → (count ≡ priceOf (job .width) p (c .used)) × (count ≤ 612000)
+  pub writable : (count : ℕ) → (count ≡ setCount (job .width) (job .prices) (c .used)) × (count ≤ 612000)
       → Writable (job .width) count (take (job .sources) (c .words))
-  writable p count ec =
+  writable count ec =
       record { width-fits = b .width .most; glue-fits = omega (arith, ec .1); few-bound = omega (arith, bound-length, b .few) }
 
-  module _ (p : Prices) (count : ℕ) (ep : p ≡ pricesOf job) (ec : (count ≡ priceOf (job .width) p (c .used)) × (count ≤ 612000)) where
-    count-is : count ≡ glue (job .width) (pricesOf job) (take (job .sources) (c .words))
+  module _ (count : ℕ) (ec : (count ≡ setCount (job .width) (job .prices) (c .used)) × (count ≤ 612000)) where
+    count-is : count ≡ glue (job .width) (job .prices) (take (job .sources) (c .words))
     count-is =
-        ec .0 ∙ ap₂ (λ (x : Prices) (y : ℕ). priceOf (job .width) x y) ep (b .uses)
-        ∙ price-is-glue (job .width) (pricesOf job) (take (job .sources) (c .words))
+        ec .0 ∙ ap (setCount (job .width) (job .prices)) (b .uses)
+        ∙ price-is-glue (job .width) (job .prices) (take (job .sources) (c .words))
 
     pub chosen-written : (lent after : List ℕ)
         → after ≡ lentAfter (mappingWords (job .width) (take (job .sources) (c .words)) count) lent
@@ -108,11 +90,11 @@ module _ (job : Job) (c : Chosen) (b : Bound job c) where
 
 -- ---- the answer
 
-module _ (ws : List ℕ) (job : Job) (e : jobOf ws ≡ read.Accepted job) (c : Chosen) (k : Kept c (job .sources) (choiceOf ws job)) (lent : List ℕ) where
+module _ (ws : List ℕ) (job : Job) (e : WellFormedJob ws job) (c : Chosen) (k : KeptChoice c (job .sources) (choiceOf ws job)) (lent : List ℕ) where
   unmapped : not (c .mapped) ≡ true → choiceOf ws job ≡ Unmappable (c .unmappable)
   unmapped h = sym (k .same) ∙ rw (not-true (c .mapped) h) refl
 
-  pub unmapped-answer : not (c .mapped) ≡ true → Refused 12 (c .unmappable) ≡ answerTo (choiceOf ws job) lent
+  pub unmapped-answer : not (c .mapped) ≡ true → Refused (refusal 12 (c .unmappable)) ≡ answerTo (choiceOf ws job) lent
   unmapped-answer h = sym (ap (λ (x : Choice). answerTo x lent) (unmapped h))
 
   pub unmapped-lent : not (c .mapped) ≡ true → lent ≡ lentTo job (choiceOf ws job) lent
@@ -142,25 +124,25 @@ module _ (ws : List ℕ) (job : Job) (e : jobOf ws ≡ read.Accepted job) (c : C
       written-is : writtenOf (length (take (job .sources) (c .words))) lent ≡ r
       written-is = ap (λ (x : ℕ). writtenOf x lent) (sym (bound-length job c ready)) ∙ sym er
 
-      pub mapped-answer : (n : ℕ) → r ≡ Words n → Mapping n ≡ answerTo (choiceOf ws job) lent
+      pub mapped-answer : (n : ℕ) → r ≡ written.Words n → Mapping n ≡ answerTo (choiceOf ws job) lent
       mapped-answer n u = sym (answered ∙ rw (written-is ∙ u) refl)
 
-      pub short-answer : (n : ℕ) → r ≡ TooFew n → Refused 23 n ≡ answerTo (choiceOf ws job) lent
-      short-answer n u = sym (answered ∙ rw (written-is ∙ u) refl)
+      pub short-answer : (x : Refusal) → r ≡ written.Refused x → Refused x ≡ answerTo (choiceOf ws job) lent
+      short-answer x u = sym (answered ∙ rw (written-is ∙ u) refl)
 
 -- ---- the job's own refusals
 
 module _ (ws : List ℕ) (r : JobRead) (er : r ≡ jobOf ws) (lent : List ℕ) where
-  pub job-refused : (n k : ℕ) → r ≡ read.Refused n k → Refused n k ≡ answerOf ws lent
+  pub job-refused : (x : Refusal) → r ≡ read.Refused x → Refused x ≡ answerOf ws lent
   unfolding answerOf
-  job-refused n k u = rw (sym er ∙ u) refl
+  job-refused x u = rw (sym er ∙ u) refl
 
-  pub job-refused-lent : (n k : ℕ) → r ≡ read.Refused n k → lent ≡ lentOf ws lent
+  pub job-refused-lent : (x : Refusal) → r ≡ read.Refused x → lent ≡ lentOf ws lent
   unfolding lentOf
-  job-refused-lent n k u = rw (sym er ∙ u) refl
+  job-refused-lent x u = rw (sym er ∙ u) refl
 
   module _ (job : Job) (u : r ≡ read.Accepted job) where
-    pub job-read : jobOf ws ≡ read.Accepted job
+    pub job-read : WellFormedJob ws job
     job-read = sym er ∙ u
 
     pub job-answered : (a : Answer) → a ≡ answerTo (choiceOf ws job) lent → a ≡ answerOf ws lent

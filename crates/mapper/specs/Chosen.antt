@@ -5,25 +5,26 @@ use mathlib.Core.Bool.{Bool, true, false}
 use mathlib.Core.List.{List}
 use lib.Bits.{bitOr}
 use lib.ListN.{length, take}
-use Rattle.alu.specs.Asked.{Width}
-use Rattle.reader.specs.Kinds.{mostSources}
-use Rattle.reader.specs.declared.Job.{Job}
 use Rattle.words.specs.Choice.{if_then_else_}
-use Rattle.glue.specs.Sets.{usage, usageOf, priceOf}
-use Rattle.glue.specs.declared.Prices.{Prices}
+use Rattle.words.specs.declared.Prices.{Prices}
+use Rattle.alu.specs.Asked.{Width}
+use Rattle.reader.specs.Limits.{mostSources}
+use Rattle.reader.specs.declared.Job.{Job}
+use Rattle.usage.specs.Sets.{usage, usageOf}
+use Rattle.glue.specs.Parts.{setCount}
 use Rattle.mapper.specs.Choose.{Choice, Mapped, Unmappable}
 use Rattle.mapper.specs.declared.choose.Chosen.{Chosen}
 
 -- the glue that a rule makes beside bindings that use a set
 abbrev pub besides : ℕ → Prices → ℕ → ℕ → ℕ
-besides n prices used w = priceOf n prices (bitOr used (usageOf w))
+besides n prices used w = setCount n prices (bitOr used (usageOf w))
 
 -- a choice of so many sources as the code keeps it
 abbrev pub keptAs : Chosen → ℕ → Choice
 keptAs c sources = if c .mapped then Mapped (take sources (c .words)) else Unmappable (c .unmappable)
 
 -- the choice, and what its bindings use
-pub record Kept (c : Chosen) (sources : ℕ) (choice : Choice) : Type 0 where
+pub record KeptChoice (c : Chosen) (sources : ℕ) (choice : Choice) : Type 0 where
   pub same : keptAs c sources ≡ choice
   pub size : length (c .words) ≡ mostSources
   pub uses : c .mapped ≡ true → c .used ≡ usage (take sources (c .words))

@@ -2,23 +2,23 @@
 use Prim.Native.Nat.{ℕ}
 use mathlib.Core.List.{List, [], _∷_}
 use lib.ListN.{length}
-use Rattle.words.specs.Paper.{Paper, accepted, refused}
+use Rattle.words.specs.Paper.{Paper, refusal, accepted, told}
 use Rattle.reader.specs.Job.{jobOf}
 use Rattle.reader.specs.declared.Job.{Job}
 use Rattle.reader.specs.declared.JobRead.{JobRead}
 use Rattle.reader.specs.declared.JobRead.the-variants as read
-use Rattle.table.specs.Table.{sourcesOf, targetsOf, rulesOf}
-use Rattle.pricer.specs.Pricing.{pricesOf, glueOf}
+use Rattle.table.specs.Parts.{sourcesOf, rulesOf, termsOf}
+use Rattle.pricer.specs.Pricing.{glueOf}
 use Rattle.writer.specs.Write.{mappingWords, writtenOf, lentAfter}
 use Rattle.writer.specs.declared.Written.{Written}
-use Rattle.writer.specs.declared.Written.the-variants.{Words, TooFew}
+use Rattle.writer.specs.declared.Written.the-variants as written
 use Rattle.mapper.specs.Choose.{Choice, Mapped, Unmappable, choose}
 use Rattle.mapper.specs.declared.Answer.{Answer}
 use Rattle.mapper.specs.declared.Answer.the-variants.{Mapping, Refused}
 
 -- the choice for a job
 abbrev pub choiceOf : List ℕ → Job → Choice
-choiceOf ws job = choose (job .width) (pricesOf job) (targetsOf ws job) (rulesOf ws job) [] (sourcesOf ws job)
+choiceOf ws job = choose (termsOf ws job) (rulesOf ws job) [] (sourcesOf ws job)
 
 -- the mapping that binds by these rules, with its glue count
 abbrev pub chosenWords : Job → List ℕ → List ℕ
@@ -28,17 +28,17 @@ chosenWords job bound = mappingWords (job .width) bound (glueOf job bound)
 
 -- "23. Lent words fewer than sources + 2; place: words needed. Last"
 abbrev pub afterWriting : Written → Answer
-afterWriting (Words n) = Mapping n
-afterWriting (TooFew needed) = Refused 23 needed
+afterWriting (written.Refused r) = Refused r
+afterWriting (written.Words n) = Mapping n
 
 -- "12. Unmappable; place: lowest function without a usable rule."
 abbrev pub answerTo : Choice → List ℕ → Answer
+answerTo (Unmappable place) lent = Refused (refusal 12 place)
 answerTo (Mapped bound) lent = afterWriting (writtenOf (length bound) lent)
-answerTo (Unmappable f) lent = Refused 12 f
 
 abbrev pub answerFor : List ℕ → JobRead → List ℕ → Answer
+answerFor ws (read.Refused r) lent = Refused r
 answerFor ws (read.Accepted job) lent = answerTo (choiceOf ws job) lent
-answerFor ws (read.Refused number place) lent = Refused number place
 
 unfoldable pub answerOf : List ℕ → List ℕ → Answer
 answerOf ws lent = answerFor ws (jobOf ws) lent
@@ -46,12 +46,12 @@ answerOf ws lent = answerFor ws (jobOf ws) lent
 -- ---- the lent words afterwards: as they were, unless a mapping is written
 
 abbrev pub lentTo : Job → Choice → List ℕ → List ℕ
+lentTo job (Unmappable place) lent = lent
 lentTo job (Mapped bound) lent = lentAfter (chosenWords job bound) lent
-lentTo job (Unmappable f) lent = lent
 
 abbrev pub lentFor : List ℕ → JobRead → List ℕ → List ℕ
+lentFor ws (read.Refused r) lent = lent
 lentFor ws (read.Accepted job) lent = lentTo job (choiceOf ws job) lent
-lentFor ws (read.Refused number place) lent = lent
 
 unfoldable pub lentOf : List ℕ → List ℕ → List ℕ
 lentOf ws lent = lentFor ws (jobOf ws) lent
@@ -59,4 +59,4 @@ lentOf ws lent = lentFor ws (jobOf ws) lent
 -- the answer in document 01's numbers
 abbrev pub paperOf : Answer → Paper
 paperOf (Mapping n) = accepted (n ∷ [])
-paperOf (Refused number place) = refused number place
+paperOf (Refused r) = told r

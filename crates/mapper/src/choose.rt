@@ -1,11 +1,13 @@
 // The choice of a rule for each source.
-use glue::Prices;
+use reader::Job;
+use reader::MOST_SOURCES;
 ghost use mathlib.Core.Path.{_≡_};
 ghost use mathlib.Core.List.{[]};
 ghost use Prim.Native.Nat.{_≤_};
 ghost use lib.ListN.{length};
 ghost use Rattle.alu.specs.Asked as Q;
-ghost use Rattle.reader.specs.Kinds.{mostSources};
+ghost use Rattle.reader.specs.Limits.{mostSources};
+ghost use Rattle.table.specs.Parts as T;
 ghost use Rattle.mapper.specs.Choose as C;
 ghost use Rattle.mapper.specs.Chosen as K;
 
@@ -16,21 +18,15 @@ pub struct Best {
     pub total: u32,
 }
 
-// A rule for each source in table order and what they use, or the function that proves unmappable.
+// A rule for each source in table order and what they use, or the place of the source that proves unmappable.
 pub struct Chosen {
-    pub words: [u32; 27],
+    pub words: [u32; MOST_SOURCES],
     pub used: u64,
     pub mapped: bool,
     pub unmappable: u32,
 }
 
-// The job's width, prices and targets, by which rules are judged and priced.
-pub struct Terms {
-    pub width: u32,
-    pub prices: Prices,
-}
-
-// Whether a rule that makes this glue takes the place of the best so far: only strictly less does.
+// Whether a rule that makes this glue is better than the best so far: only strictly less is.
 fn beats(best: Best, total: u32) -> bool
     ensures { λ r. ⌜ r ≡ C.beats best total ⌝ }
 {
@@ -38,9 +34,17 @@ fn beats(best: Best, total: u32) -> bool
 }
 
 // One rule more for a function, beside bindings that use a set. A rule is judged last, and only if it would make less glue.
-fn consider(best: Best, word: u32, function: u32, used: u64, terms: Terms, targets: &[u32]) -> Best
-    requires { ⌜ Q.Width (terms .width) ⌝ }
-    ensures { λ r. ⌜ r ≡ C.better (K.besides (terms .width) (terms .prices) used) (terms .width) (now (targets .entry)) function best word ⌝ }
+fn consider(
+    best: Best,
+    word: u32,
+    function: u32,
+    used: u64,
+    job: Job,
+    sources: &[u32],
+    targets: &[u32],
+) -> Best
+    requires { ⌜ Q.Width (job .width) ⌝ }
+    ensures { λ r. ⌜ r ≡ C.better (K.besides (job .width) (job .prices) used) (T.termsWith job (now (sources .entry)) (now (targets .entry))) function best word ⌝ }
 {
     if recipe::source_of(word) != function {
         return best;
@@ -48,13 +52,13 @@ fn consider(best: Best, word: u32, function: u32, used: u64, terms: Terms, targe
     if !table::has_target(targets, word) {
         return best;
     }
-    let n = terms.width;
-    let prices = terms.prices;
-    let total = glue::price(used | glue::usage_of(word), n, prices);
+    let n = job.width;
+    let prices = job.prices;
+    let total = glue::price(used | usage::usage_of(word), n, prices);
     if !beats(best, total) {
         return best;
     }
-    if !equivalence::is_right(word, n) {
+    if !table::is_right(sources, targets, word, n) {
         return best;
     }
     Best {
@@ -66,18 +70,18 @@ fn consider(best: Best, word: u32, function: u32, used: u64, terms: Terms, targe
 
 // "Sources are taken in order; each gets the usable rule that makes the glue of the bindings so far least, the earlier rule on equal
 // glue." The loop over the sources is left from inside when a function proves unmappable.
-pub fn choose(terms: Terms, sources: &[u32], targets: &[u32], rules: &[u32]) -> Chosen
-    requires { ⌜ Q.Width (terms .width) × (length (now sources) ≤ mostSources) ⌝ }
-    ensures { λ r. ⌜ K.Kept r (length (now (sources .entry)))
-        (C.choose (terms .width) (terms .prices) (now (targets .entry)) (now (rules .entry)) [] (now (sources .entry))) ⌝ }
+pub fn choose(job: Job, sources: &[u32], targets: &[u32], rules: &[u32]) -> Chosen
+    requires { ⌜ Q.Width (job .width) × (length (now sources) ≤ mostSources) ⌝ }
+    ensures { λ r. ⌜ K.KeptChoice r (length (now (sources .entry)))
+        (C.choose (T.termsWith job (now (sources .entry)) (now (targets .entry))) (now (rules .entry)) [] (now (sources .entry))) ⌝ }
 {
-    let mut words = [0u32; 27];
+    let mut bound = [0u32; MOST_SOURCES];
     let mut used: u64 = 0;
     let mut mapped = true;
     let mut unmappable: u32 = 0;
     let mut i = 0;
     'sources: while i < sources.len() {
-        let function = table::entry_place(sources[i]);
+        let function = words::source_function(sources[i]);
         let mut best = Best {
             found: false,
             word: 0,
@@ -93,16 +97,16 @@ pub fn choose(terms: Terms, sources: &[u32], targets: &[u32], rules: &[u32]) -> 
                 unmappable = function;
                 break 'sources;
             }
-            let next = consider(best, rules[j], function, used, terms, targets);
+            let next = consider(best, rules[j], function, used, job, sources, targets);
             best = next;
             j += 1;
         }
-        words[i] = best.word;
-        used = used | glue::usage_of(best.word);
+        bound[i] = best.word;
+        used = used | usage::usage_of(best.word);
         i += 1;
     }
     Chosen {
-        words,
+        words: bound,
         used,
         mapped,
         unmappable,

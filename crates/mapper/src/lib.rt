@@ -2,13 +2,12 @@
 mod choose;
 
 use choose::Chosen;
-use choose::Terms;
 use reader::Job;
 use reader::JobRead;
+use words::Refusal;
 use writer::Written;
 ghost use mathlib.Core.Path.{_≡_};
 ghost use Rattle.reader.specs.Job as J;
-ghost use Rattle.reader.specs.declared.JobRead as R;
 ghost use lib.ListN.{take};
 ghost use Rattle.writer.specs.Write as W;
 ghost use Rattle.mapper.specs.Chosen as K;
@@ -17,25 +16,18 @@ ghost use Rattle.mapper.specs.Mapping as M;
 // The number of words written, or the refusal: the job's 1 to 6, 12, then 23.
 pub enum Answer {
     Mapping(usize),
-    Refused { number: u32, place: usize },
+    Refused(Refusal),
 }
 
 // The choice for a job that was read. Its rules are a part of its words that begins after its tables.
 fn choice_of(job: Job, words: &[u32]) -> Chosen
-    requires { ⌜ J.jobOf (now words) ≡ JobRead.Accepted job ⌝ }
-    ensures { λ r. ⌜ K.Kept r (job .sources) (M.choiceOf (now (words .entry)) job) ⌝ }
+    requires { ⌜ J.WellFormedJob (now words) job ⌝ }
+    ensures { λ r. ⌜ K.KeptChoice r (job .sources) (M.choiceOf (now (words .entry)) job) ⌝ }
 {
-    let width = job.width;
-    let prices = pricer::prices_of(job);
-    let start = reader::SOURCES_START;
-    let targets = reader::targets_start(job);
-    let rules = reader::rules_start(job);
-    choose::choose(
-        Terms { width, prices },
-        &words[start..targets],
-        &words[targets..rules],
-        &words[rules..],
-    )
+    let sources = table::sources_of(words, job);
+    let targets = table::targets_of(words, job);
+    let rules = table::rules_of(words, job);
+    choose::choose(job, sources, targets, rules)
 }
 
 // Writes the mapping that binds by the chosen rules.
@@ -45,7 +37,8 @@ fn write_chosen(job: Job, chosen: Chosen, lent: &mut [u32]) -> Written
     ensures written { λ r. ⌜ now (lent .exit) ≡ W.lentAfter (M.chosenWords job (take (job .sources) (chosen .words))) (now (lent .entry)) ⌝ }
 {
     let width = job.width;
-    let count = glue::price(chosen.used, width, pricer::prices_of(job));
+    let prices = job.prices;
+    let count = glue::price(chosen.used, width, prices);
     let sources = job.sources as usize;
     let bound = chosen.words;
     writer::write_mapping(width, &bound[..sources], count, lent)
@@ -53,24 +46,21 @@ fn write_chosen(job: Job, chosen: Chosen, lent: &mut [u32]) -> Written
 
 // The mapping of a job that was read: 12 comes before 23.
 fn map_read(job: Job, words: &[u32], lent: &mut [u32]) -> Answer
-    requires { ⌜ J.jobOf (now words) ≡ JobRead.Accepted job ⌝ }
+    requires { ⌜ J.WellFormedJob (now words) job ⌝ }
     ensures answer { λ r. ⌜ r ≡ M.answerTo (M.choiceOf (now (words .entry)) job) (now (lent .entry)) ⌝ }
     ensures written { λ r. ⌜ now (lent .exit) ≡ M.lentTo job (M.choiceOf (now (words .entry)) job) (now (lent .entry)) ⌝ }
 {
     let chosen = choice_of(job, words);
     if !chosen.mapped {
-        return Answer::Refused {
+        return Answer::Refused(Refusal {
             number: 12,
             place: chosen.unmappable as usize,
-        };
+        });
     }
     let written = write_chosen(job, chosen, lent);
     match written {
         Written::Words(n) => Answer::Mapping(n),
-        Written::TooFew(needed) => Answer::Refused {
-            number: 23,
-            place: needed,
-        },
+        Written::Refused(refusal) => Answer::Refused(refusal),
     }
 }
 
@@ -81,7 +71,7 @@ pub fn map(words: &[u32], lent: &mut [u32]) -> Answer
 {
     let read = reader::read_job(words);
     match read {
-        JobRead::Refused { number, place } => Answer::Refused { number, place },
+        JobRead::Refused(refusal) => Answer::Refused(refusal),
         JobRead::Accepted(job) => map_read(job, words, lent),
     }
 }

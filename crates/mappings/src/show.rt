@@ -1,72 +1,79 @@
 // What the mapper answers, and the lent words afterwards.
-use libc::STDOUT_FILENO;
 use mapper::Answer;
+use reference::at;
+use reference::say;
 ghost use Prim.Native.Nat.{_≤_};
 
 // What a lent word holds before.
 const LENT: u32 = 0xEEEEEEEE;
 
-fn say(text: &[u8]) {
-    io::write_all(STDOUT_FILENO, text);
-}
+const DIGITS: [u8; 16] = [
+    b'0',
+    b'1',
+    b'2',
+    b'3',
+    b'4',
+    b'5',
+    b'6',
+    b'7',
+    b'8',
+    b'9',
+    b'A',
+    b'B',
+    b'C',
+    b'D',
+    b'E',
+    b'F',
+];
 
-// Eight capital hexadecimal digits.
+// Eight capital hexadecimal digits, or that the word was not touched.
 fn say_word(word: u32) {
-    let mut place: u32 = 0;
-    while place < 8 {
-        say_digit((word >> (28 - 4 * place)) % 16);
-        place += 1;
-    }
-}
-
-fn say_digit(digit: u32) {
-    if digit < 10 {
-        let text = [(48 + digit) as u8];
-        say(&text);
+    if word == LENT {
+        say::text(b" -");
         return;
     }
-    let text = [(55 + digit % 16) as u8];
-    say(&text);
+    say::text(b" ");
+    let mut text = [0u8; 8];
+    let mut rest = word;
+    let mut place = 8;
+    while place > 0 {
+        place -= 1;
+        let digit = (rest % 16) as usize;
+        text[place] = DIGITS[digit];
+        rest = rest / 16;
+    }
+    say::text(&text);
+}
+
+fn say_words(words: &[u32]) {
+    let mut i = 0;
+    while i < words.len() {
+        say_word(at(words, i));
+        i += 1;
+    }
 }
 
 fn say_answer(answer: Answer) {
     match answer {
         Answer::Mapping(n) => {
-            say(b": mapping of ");
-            io::print_decimal(STDOUT_FILENO, n as u64);
-            say(b" words");
+            say::count(b": mapping of ", n as u64);
+            say::text(b" words");
         }
-        Answer::Refused { number, place } => {
-            say(b": refused ");
-            io::print_decimal(STDOUT_FILENO, number as u64);
-            say(b" ");
-            io::print_decimal(STDOUT_FILENO, place as u64);
+        Answer::Refused(refusal) => {
+            say::count(b": refused ", refusal.number as u64);
+            say::count(b" ", refusal.place as u64);
         }
-    }
-}
-
-// The words, or that none of them was touched.
-fn say_words(words: &[u32]) {
-    let mut i = 0;
-    while i < words.len() {
-        say(b" ");
-        if words[i] == LENT {
-            say(b"-");
-        } else {
-            say_word(words[i]);
-        }
-        i += 1;
     }
 }
 
 // Maps a job into lent words, and shows what they hold then.
 fn mapped_into(name: &[u8], job: &[u32], lent: &mut [u32]) {
     let answer = mapper::map(job, lent);
-    say(name);
+    say::text(name);
     say_answer(answer);
-    say(b";");
+    say::text(b";");
     say_words(lent);
-    say(b"\n");
+    say::text(b"\n");
 }
 
 // Maps a job into so many lent words.

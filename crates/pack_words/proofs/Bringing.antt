@@ -4,6 +4,6 @@ use mathlib.Core.Bool.{Bool, false}
 use Prim.Native.Nat.{ℕ, _+_, _-_, _^_, _<_}
 use native.Mathlib.Omega.{arith}
 
-pub brings : (place n size after : ℕ) (ended : Bool) → (n ≡ 0 → ⊥) → n ≡ size → (ended ≡ false → after ≡ place + size)
-    → ended ≡ false → place < after
-brings place n size after ended h k f e = omega (arith, h, k, f e)
+pub brings : (at n size after : ℕ) (ended : Bool) → (n ≡ 0 → ⊥) → n ≡ size → (ended ≡ false → after ≡ at + size)
+    → ended ≡ false → at < after
+brings at n size after ended h k f e = omega (arith, h, k, f e)

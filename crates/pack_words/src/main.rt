@@ -22,9 +22,9 @@ fn write_word(word: u32) {
 }
 
 // Says at which byte the text is wrong.
-fn complain(place: usize) {
+fn complain(at: usize) {
     io::write_all(STDERR_FILENO, b"pack_words: byte ");
-    io::print_decimal(STDERR_FILENO, place as u64);
+    io::print_decimal(STDERR_FILENO, at as u64);
     io::write_all(
         STDERR_FILENO,
         b": words are eight hexadecimal digits, parted by spaces or line feeds\n",
@@ -32,30 +32,30 @@ fn complain(place: usize) {
 }
 
 // Takes one byte, and writes the word that it ends.
-fn next(hex: Hex, byte: u8, place: usize) -> Progress
-    requires { ⌜ place < 2 ^ 62 ⌝ }
-    ensures { λ r. ⌜ (r .ended ≡ false → r .bytes ≡ place + 1) ⌝ }
+fn next(hex: Hex, byte: u8, at: usize) -> Progress
+    requires { ⌜ at < 2 ^ 62 ⌝ }
+    ensures { λ r. ⌜ (r .ended ≡ false → r .bytes ≡ at + 1) ⌝ }
 {
     let step = text::hex::taken(hex, byte);
     match step {
         Step::More(more) => Progress {
             hex: more,
-            bytes: place + 1,
+            bytes: at + 1,
             ended: false,
         },
         Step::Word(word) => {
             write_word(word);
             Progress {
                 hex: text::hex::none(),
-                bytes: place + 1,
+                bytes: at + 1,
                 ended: false,
             }
         }
         Step::Bad => {
-            complain(place);
+            complain(at);
             Progress {
                 hex,
-                bytes: place,
+                bytes: at,
                 ended: true,
             }
         }
@@ -63,14 +63,14 @@ fn next(hex: Hex, byte: u8, place: usize) -> Progress
 }
 
 // Takes the bytes of a chunk.
-fn take_all(hex: Hex, chunk: &[u8], place: usize) -> Progress
-    requires { ⌜ place + length (now chunk) ≤ 2 ^ 62 ⌝ }
-    ensures { λ r. ⌜ (r .ended ≡ false → r .bytes ≡ place + length (now (chunk .entry))) ⌝ }
+fn take_all(hex: Hex, chunk: &[u8], at: usize) -> Progress
+    requires { ⌜ at + length (now chunk) ≤ 2 ^ 62 ⌝ }
+    ensures { λ r. ⌜ (r .ended ≡ false → r .bytes ≡ at + length (now (chunk .entry))) ⌝ }
 {
     let mut now = hex;
     let mut i = 0;
     while i < chunk.len() {
-        let progress = next(now, chunk[i], place + i);
+        let progress = next(now, chunk[i], at + i);
         if progress.ended {
             return progress;
         }
@@ -79,25 +79,25 @@ fn take_all(hex: Hex, chunk: &[u8], place: usize) -> Progress
     }
     Progress {
         hex: now,
-        bytes: place + i,
+        bytes: at + i,
         ended: false,
     }
 }
 
 // The end of the text: a last word may stand there without a gap behind it.
-fn finish(hex: Hex, place: usize) {
+fn finish(hex: Hex, at: usize) {
     let step = text::hex::ended(hex);
     match step {
         Step::More(_) => {}
         Step::Word(word) => write_word(word),
-        Step::Bad => complain(place),
+        Step::Bad => complain(at),
     }
 }
 
 // Reads once, and takes what came.
-fn take_some(hex: Hex, place: usize) -> Progress
-    requires { ⌜ place < 2 ^ 61 ⌝ }
-    ensures { λ r. ⌜ (r .ended ≡ false → place < r .bytes) ⌝ }
+fn take_some(hex: Hex, at: usize) -> Progress
+    requires { ⌜ at < 2 ^ 61 ⌝ }
+    ensures { λ r. ⌜ (r .ended ≡ false → at < r .bytes) ⌝ }
 {
     let mut chunk = [0u8; 4096];
     let got = libc::read(STDIN_FILENO, &mut chunk);
@@ -105,20 +105,20 @@ fn take_some(hex: Hex, place: usize) -> Progress
         os::fail(b"standard input");
         return Progress {
             hex,
-            bytes: place,
+            bytes: at,
             ended: true,
         };
     }
     let n = io::count(got, &chunk);
     if n == 0 {
-        finish(hex, place);
+        finish(hex, at);
         return Progress {
             hex,
-            bytes: place,
+            bytes: at,
             ended: true,
         };
     }
-    take_all(hex, &chunk[..n], place)
+    take_all(hex, &chunk[..n], at)
 }
 
 // More bytes than a text has.

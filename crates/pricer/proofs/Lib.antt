@@ -1,4 +1,1 @@
-pub mod Pairs
-pub mod Parts
-pub mod Fitted
 pub mod Pricings

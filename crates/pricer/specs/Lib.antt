@@ -1,3 +1,1 @@
-pub mod Pair
-pub mod Fitting
 pub mod Pricing

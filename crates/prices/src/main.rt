@@ -1,67 +1,46 @@
-// The count of many sets of bindings, by the library and by a second pricer.
+// The count of many sets of bindings, by the library and by the reference.
 mod random;
-mod second;
 mod tables;
 
-use glue::Prices;
-use libc::STDOUT_FILENO;
-use random::next;
-use random::prices_from;
-use random::width_from;
+use random::costs_from;
 use random::word_from;
-use second::second_price;
-use std::num::wrapping_add_u64;
+use reference::Costs;
+use reference::Tally;
+use reference::at;
+use reference::counted;
+use reference::glue_count;
+use reference::next;
+use reference::none;
+use reference::say;
 use tables::ALL;
-use tables::PRINTED;
 use tables::SINGLE;
-ghost use Prim.Native.Nat.{_≤_};
+use words::Prices;
 
-const SEED: u64 = 0x9e3779b97f4a7c15;
+const SEED: u64 = 0x9e37_79b9_7f4a_7c15;
 
-// How many counts were compared, and how many of them differ.
-struct Tally {
-    compared: u64,
-    differ: u64,
-}
-
-fn nothing() -> Tally {
-    Tally {
-        compared: 0,
-        differ: 0,
+// The library's count of what is in use, at widths from 1 to 64.
+fn price(usage: u64, costs: Costs) -> u64 {
+    let n = (costs.n % 0x1_0000_0000) as u32;
+    if n == 0 {
+        return 0;
     }
-}
-
-// The tally with two counts of one set.
-fn noted(tally: Tally, first: u32, second: u32) -> Tally {
-    if first == second {
-        return Tally {
-            compared: wrapping_add_u64(tally.compared, 1),
-            differ: tally.differ,
-        };
+    if n > 64 {
+        return 0;
     }
-    Tally {
-        compared: wrapping_add_u64(tally.compared, 1),
-        differ: wrapping_add_u64(tally.differ, 1),
-    }
+    let prices = Prices {
+        inverter: (costs.inverter % 256) as u8,
+        gate: (costs.gate % 256) as u8,
+        multiplexer: (costs.multiplexer % 256) as u8,
+    };
+    let count = glue::price(usage, n, prices);
+    count as u64
 }
 
 // The words at a width and prices made of x.
 fn compared(tally: Tally, words: &[u32], x: u64) -> Tally {
-    let n = width_from(x);
-    let prices = prices_from(next(x));
-    noted(
-        tally,
-        glue::price(glue::joined(words), n, prices),
-        second_price(words, n, prices),
-    )
-}
-
-fn report(name: &[u8], tally: Tally) {
-    io::write_all(STDOUT_FILENO, name);
-    io::print_decimal(STDOUT_FILENO, tally.compared);
-    io::write_all(STDOUT_FILENO, b" compared, ");
-    io::print_decimal(STDOUT_FILENO, tally.differ);
-    io::write_all(STDOUT_FILENO, b" differ\n");
+    let costs = costs_from(x);
+    let same = price(usage::joined(words), costs) == glue_count(words, costs);
+    counted(tally, same)
 }
 
 // The same words at a thousand widths and prices.
@@ -79,7 +58,7 @@ fn at_many(tally: Tally, words: &[u32]) -> Tally {
 }
 
 fn single_codes() -> Tally {
-    let mut t = nothing();
+    let mut t = none();
     let mut i = 0;
     while i < 56 {
         let words = [SINGLE[i]];
@@ -91,34 +70,20 @@ fn single_codes() -> Tally {
 }
 
 // One code with each other.
-fn paired(tally: Tally, word: u32, x: u64) -> Tally {
-    let mut t = tally;
-    let mut y = x;
-    let mut i = 0;
-    while i < 56 {
-        let words = [word, SINGLE[i]];
-        let after = compared(t, &words, y);
-        t = after;
-        y = next(y);
-        i += 1;
-    }
-    t
-}
-
 fn pairs() -> Tally {
-    let mut t = nothing();
+    let mut t = none();
     let mut x = SEED;
     let mut i = 0;
-    while i < 56 {
-        let after = paired(t, SINGLE[i], x);
+    while i < 3136 {
+        let words = [at(&SINGLE, i / 56), at(&SINGLE, i % 56)];
+        let after = compared(t, &words, x);
         t = after;
-        x = next(next(x));
+        x = next(x);
         i += 1;
     }
     t
 }
 
-// 27 words.
 fn words_from(x: u64) -> [u32; 27] {
     let mut words = [0; 27];
     let mut y = x;
@@ -131,38 +96,29 @@ fn words_from(x: u64) -> [u32; 27] {
     words
 }
 
-// Sets of 0 to `size` words, each made of the one before by joining one word's set.
-fn grown(tally: Tally, words: [u32; 27], size: usize, n: u32, prices: Prices) -> Tally
-    requires { ⌜ (size ≤ 27) × (1 ≤ n) × (n ≤ 64) ⌝ }
-{
+// Sets of none of the words and more, each made of the one before by joining one word's set.
+fn grown(tally: Tally, words: &[u32], sets: usize, costs: Costs) -> Tally {
     let mut t = tally;
     let mut usage: u64 = 0;
     let mut k = 0;
-    while k < size {
-        let after = noted(
-            t,
-            glue::price(usage, n, prices),
-            second_price(&words[..k], n, prices),
-        );
+    while k < sets {
+        let second = glue_count(reference::first(words, k), costs);
+        let after = counted(t, price(usage, costs) == second);
         t = after;
-        usage = usage | glue::usage_of(words[k]);
+        usage = usage | usage::usage_of(at(words, k));
         k += 1;
     }
-    noted(
-        t,
-        glue::price(usage, n, prices),
-        second_price(&words[..k], n, prices),
-    )
+    t
 }
 
 fn random_sets() -> Tally {
-    let mut t = nothing();
+    let mut t = none();
     let mut x = SEED;
     let mut i: u32 = 0;
     while i < 20000 {
         let y = next(x);
-        let size = (y % 28) as usize;
-        let after = grown(t, words_from(y), size, width_from(x), prices_from(next(y)));
+        let words = words_from(y);
+        let after = grown(t, &words, (y % 28 + 1) as usize, costs_from(x));
         t = after;
         x = next(y / 32 + 1);
         i += 1;
@@ -171,40 +127,48 @@ fn random_sets() -> Tally {
 }
 
 // One count, printed.
-fn total(name: &[u8], words: &[u32], n: u32, prices: Prices)
-    requires { ⌜ (1 ≤ n) × (n ≤ 64) ⌝ }
-{
-    io::write_all(STDOUT_FILENO, name);
-    io::print_decimal(
-        STDOUT_FILENO,
-        glue::price(glue::joined(words), n, prices) as u64,
+fn total(name: &[u8], words: &[u32], n: u64, multiplexer: u64, other: u64) {
+    let costs = Costs {
+        n,
+        inverter: other,
+        gate: other,
+        multiplexer,
+    };
+    say::count(name, price(usage::joined(words), costs));
+    say::text(b"\n");
+}
+
+fn report_totals() {
+    let printed = reference::MAPPING;
+    total(
+        b"no bindings at width 64 and prices 255: ",
+        &printed[..0],
+        64,
+        255,
+        255,
     );
-    io::write_all(STDOUT_FILENO, b"\n");
+    total(
+        b"all codes at width 64 and prices 255: ",
+        &ALL,
+        64,
+        255,
+        255,
+    );
+    total(
+        b"printed mapping: ",
+        reference::bindings_of(&printed),
+        16,
+        3,
+        1,
+    );
 }
 
 fn main() {
-    let none = [0; 1];
-    report(b"no bindings: ", at_many(nothing(), &none[..0]));
-    report(b"one code: ", single_codes());
-    report(b"two codes: ", pairs());
-    report(b"all codes: ", at_many(nothing(), &ALL));
-    report(b"random sets: ", random_sets());
-    let dear = Prices {
-        inverter: 255,
-        gate: 255,
-        multiplexer: 255,
-    };
-    total(
-        b"no bindings at width 64 and prices 255: ",
-        &none[..0],
-        64,
-        dear,
-    );
-    total(b"all codes at width 64 and prices 255: ", &ALL, 64, dear);
-    let printed = Prices {
-        inverter: 1,
-        gate: 1,
-        multiplexer: 3,
-    };
-    total(b"printed mapping: ", &PRINTED, 16, printed);
+    let nothing = [0; 1];
+    say::report(b"no bindings", at_many(none(), &nothing[..0]));
+    say::report(b"one code", single_codes());
+    say::report(b"two codes", pairs());
+    say::report(b"all codes", at_many(none(), &ALL));
+    say::report(b"random sets", random_sets());
+    report_totals();
 }

@@ -79,6 +79,3 @@ pub const ALL: [u32; 16] = [
     0x6085be8f,
     0x6380000f,
 ];
-
-// The mapping that document 01 prints.
-pub const PRINTED: [u32; 4] = [0x60854960, 0x6185c960, 0x64000001, 0x6c89440c];

@@ -5,7 +5,9 @@ use Prim.Native.Nat.{ℕ, _<_, _≤_}
 use native.Mathlib.Omega.{arith}
 use lib.ListN.{length, getD}
 use borrow.Author.Tests.{lt-ltb, le-ltb}
-use Rattle.reader.specs.Kinds.{SOURCE, mostJobWords}
+use Rattle.words.specs.Paper.{refusal}
+use Rattle.words.specs.declared.Refusal.{Refusal}
+use Rattle.reader.specs.Limits.{mostJobWords}
 use Rattle.reader.specs.Reading.{nothing, reading}
 use Rattle.reader.specs.Job.{factsOf, ended, jobOf}
 use Rattle.reader.specs.declared.sequence.File.the-variants.{AsJob}
@@ -15,32 +17,32 @@ use Rattle.reader.specs.declared.step.Reading.the-variants.{Passed, Stop
 use Rattle.reader.specs.declared.Job.{Job}
 use Rattle.reader.specs.declared.JobRead.the-variants.{Accepted, Refused}
 use Rattle.reader.proofs.Limits.{none, many, between}
-use Rattle.reader.proofs.JobWords.{all-held}
+use Rattle.reader.proofs.Stages.{two-words}
 
 module _ (ws : List ℕ) where
-  pub no-words : length ws < 1 → Refused 1 0 ≡ jobOf ws
+  pub no-words : length ws < 1 → Refused (refusal 1 0) ≡ jobOf ws
   unfolding jobOf
-  no-words h = none mostJobWords (length ws) (Refused 1 0) _ h
+  no-words h = none mostJobWords (length ws) (Refused (refusal 1 0)) _ h
 
-  pub many-words : mostJobWords < length ws → Refused 1 0 ≡ jobOf ws
+  pub many-words : mostJobWords < length ws → Refused (refusal 1 0) ≡ jobOf ws
   unfolding jobOf
-  many-words h = many mostJobWords (length ws) (Refused 1 0) _ (omega arith) h
+  many-words h = many mostJobWords (length ws) (Refused (refusal 1 0)) _ (omega arith) h
 
   module _ (r : Reading) (e : r ≡ reading AsJob nothing 0 ws) (some : 1 ≤ length ws) (few : length ws ≤ mostJobWords) where
     by-reading : jobOf ws ≡ ended ws r
     unfolding jobOf
-    by-reading = between mostJobWords (length ws) (Refused 1 0) _ some few ∙ ap (ended ws) (sym e)
+    by-reading = between mostJobWords (length ws) (Refused (refusal 1 0)) _ some few ∙ ap (ended ws) (sym e)
 
-    pub stopped : (n i : ℕ) → r ≡ Stopped n i → Refused n i ≡ jobOf ws
-    stopped n i p = sym (by-reading ∙ ap (ended ws) p)
+    pub stopped : (x : Refusal) → r ≡ Stopped x → Refused x ≡ jobOf ws
+    stopped x p = sym (by-reading ∙ ap (ended ws) p)
 
     module _ (s : State) (p : r ≡ Passed s) where
-      pub ended-early : s .kind < SOURCE → Refused 2 (length ws) ≡ jobOf ws
-      ended-early h = sym (by-reading ∙ ap (ended ws) p ∙ rw (lt-ltb (s .kind) SOURCE h) refl)
+      pub ended-early : s .sources < 1 → Refused (refusal 2 (length ws)) ≡ jobOf ws
+      ended-early h = sym (by-reading ∙ ap (ended ws) p ∙ rw (lt-ltb (s .sources) 1 h) refl)
 
-      module _ (h : SOURCE ≤ s .kind) where
-        pub two-words : 1 < length ws
-        two-words = omega (arith, all-held ws s (sym e ∙ p) h)
+      module _ (h : 1 ≤ s .sources) where
+        pub prices-there : 1 < length ws
+        prices-there = omega (arith, two-words ws s (sym e ∙ p) h)
 
         pub accepted : (job : Job) → job ≡ factsOf (getD ws 0 0) (getD ws 1 0) s → Accepted job ≡ jobOf ws
-        accepted job u = sym (by-reading ∙ ap (ended ws) p ∙ rw (le-ltb (s .kind) SOURCE h) (ap Accepted (sym u)))
+        accepted job u = sym (by-reading ∙ ap (ended ws) p ∙ rw (le-ltb (s .sources) 1 h) (ap Accepted (sym u)))

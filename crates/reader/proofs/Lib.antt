@@ -1,13 +1,7 @@
 pub mod Limits
 pub mod Steps
 pub mod Turns
-pub mod Parts
 pub mod Faultless
-pub mod JobWords
+pub mod Stages
 pub mod JobAnswers
-pub mod MappingWords
 pub mod MappingAnswers
-pub mod Accepting
-pub mod JobParts
-pub mod JobAccepting
-pub mod Numbers

@@ -5,7 +5,10 @@ use Prim.Native.Nat.{ℕ, _-_, _<_, _≤_}
 use native.Mathlib.Omega.{arith}
 use lib.ListN.{length, getD}
 use borrow.Author.Tests.{eq-eqb, ne-eqb}
-use Rattle.reader.specs.Kinds.{GLUE, mostMappingWords}
+use Rattle.words.specs.Kinds.{GLUE}
+use Rattle.words.specs.Paper.{refusal}
+use Rattle.words.specs.declared.Refusal.{Refusal}
+use Rattle.reader.specs.Limits.{mostMappingWords}
 use Rattle.reader.specs.Reading.{nothing, reading}
 use Rattle.reader.specs.Mapping.{factsOf, ended, mappingOf}
 use Rattle.reader.specs.declared.sequence.File.the-variants.{AsMapping}
@@ -17,26 +20,26 @@ use Rattle.reader.specs.declared.MappingRead.the-variants.{Accepted, Ref
 use Rattle.reader.proofs.Limits.{none, many, between}
 
 module _ (ws : List ℕ) where
-  pub no-words : length ws < 1 → Refused 1 0 ≡ mappingOf ws
+  pub no-words : length ws < 1 → Refused (refusal 1 0) ≡ mappingOf ws
   unfolding mappingOf
-  no-words h = none mostMappingWords (length ws) (Refused 1 0) _ h
+  no-words h = none mostMappingWords (length ws) (Refused (refusal 1 0)) _ h
 
-  pub many-words : mostMappingWords < length ws → Refused 1 0 ≡ mappingOf ws
+  pub many-words : mostMappingWords < length ws → Refused (refusal 1 0) ≡ mappingOf ws
   unfolding mappingOf
-  many-words h = many mostMappingWords (length ws) (Refused 1 0) _ (omega arith) h
+  many-words h = many mostMappingWords (length ws) (Refused (refusal 1 0)) _ (omega arith) h
 
   module _ (r : Reading) (e : r ≡ reading AsMapping nothing 0 ws) (some : 1 ≤ length ws) (few : length ws ≤ mostMappingWords) where
     pub by-reading : mappingOf ws ≡ ended ws r
     unfolding mappingOf
-    by-reading = between mostMappingWords (length ws) (Refused 1 0) _ some few ∙ ap (ended ws) (sym e)
+    by-reading = between mostMappingWords (length ws) (Refused (refusal 1 0)) _ some few ∙ ap (ended ws) (sym e)
 
-    pub stopped : (n i : ℕ) → r ≡ Stopped n i → Refused n i ≡ mappingOf ws
-    stopped n i p = sym (by-reading ∙ ap (ended ws) p)
+    pub stopped : (x : Refusal) → r ≡ Stopped x → Refused x ≡ mappingOf ws
+    stopped x p = sym (by-reading ∙ ap (ended ws) p)
 
     module _ (s : State) (p : r ≡ Passed s) where
-      pub ended-early : (s .kind ≡ GLUE → ⊥) → Refused 2 (length ws) ≡ mappingOf ws
-      ended-early h = sym (by-reading ∙ ap (ended ws) p ∙ rw (ne-eqb (s .kind) GLUE h) refl)
+      pub ended-early : (s .stage ≡ GLUE → ⊥) → Refused (refusal 2 (length ws)) ≡ mappingOf ws
+      ended-early h = sym (by-reading ∙ ap (ended ws) p ∙ rw (ne-eqb (s .stage) GLUE h) refl)
 
-      pub accepted : (mapping : Mapping) → s .kind ≡ GLUE → mapping ≡ factsOf (getD ws 0 0) (getD ws (length ws - 1) 0) s
+      pub accepted : (mapping : Mapping) → s .stage ≡ GLUE → mapping ≡ factsOf (getD ws 0 0) (getD ws (length ws - 1) 0) s
           → Accepted mapping ≡ mappingOf ws
-      accepted mapping h u = sym (by-reading ∙ ap (ended ws) p ∙ rw (eq-eqb (s .kind) GLUE h) (ap Accepted (sym u)))
+      accepted mapping h u = sym (by-reading ∙ ap (ended ws) p ∙ rw (eq-eqb (s .stage) GLUE h) (ap Accepted (sym u)))

@@ -7,6 +7,7 @@ use native.Mathlib.Omega.{arith}
 use lib.Dec.{eqb}
 use lib.ListN.{length, drop, getD, drop-of-length-le}
 use Rattle.words.specs.Choice.{if_then_else_}
+use Rattle.words.specs.Paper.{refusal}
 use Rattle.words.proofs.Lists.{drop-next}
 use Rattle.reader.specs.Asked.{Counted}
 use Rattle.reader.specs.Reading.{wordFault, raised, noted, after, stepOf, reading}
@@ -20,10 +21,10 @@ use Rattle.reader.specs.declared.step.Reading.the-variants.{Passed, Stop
 -- what follows a step
 onward : Step → ℕ → (State → Reading) → Reading
 onward (Next t) i rest = rest t
-onward (Bad n) i rest = Stopped n i
+onward (Bad n) i rest = Stopped (refusal n i)
 
 by-step : (b : Bool) (t : State) (n i : ℕ) (rest : State → Reading)
-    → _≡_ {A = Reading} (if b then rest t else Stopped n i) (onward (if b then Next t else Bad n) i rest)
+    → _≡_ {A = Reading} (if b then rest t else Stopped (refusal n i)) (onward (if b then Next t else Bad n) i rest)
 unfolding onward
 by-step true t n i rest = refl
 by-step false t n i rest = refl
@@ -42,7 +43,7 @@ module _ (file : File) (ws : List ℕ) (s : State) (i : ℕ) (r : Reading) (d : 
   turn t e h p q = rw q at (opened e h p)
 
   pub stop : (n : ℕ) → reading file s i (drop i ws) ≡ r → i < length ws → d ≡ stepOf file s (getD ws i 0) → d ≡ Bad n
-      → Stopped n i ≡ r
+      → Stopped (refusal n i) ≡ r
   unfolding onward
   stop n e h p q = rw q at (opened e h p)
 

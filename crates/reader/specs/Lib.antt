@@ -1,4 +1,4 @@
-pub mod Kinds
+pub mod Limits
 pub mod Sequence
 pub mod Reading
 pub mod Job

@@ -1,13 +1,15 @@
 -- Document 01, "Words" and refusals 1 to 6: the reading of a mapping.
 use Prim.Native.Nat.{ℕ, _-_}
-use mathlib.Core.Bool.{Bool, true, false}
+use mathlib.Core.Path.{_≡_}
+use mathlib.Core.Bool.{not}
 use mathlib.Core.List.{List, [], _∷_}
 use lib.Dec.{eqb, ltb}
 use lib.ListN.{length, getD}
 use Rattle.words.specs.Choice.{if_then_else_}
 use Rattle.words.specs.Field.{field}
-use Rattle.words.specs.Paper.{Paper, accepted, refused}
-use Rattle.reader.specs.Kinds.{GLUE, mostMappingWords}
+use Rattle.words.specs.Kinds.{GLUE}
+use Rattle.words.specs.Paper.{Paper, refusal, accepted, told}
+use Rattle.reader.specs.Limits.{mostMappingWords}
 use Rattle.reader.specs.Reading.{reading, nothing}
 use Rattle.reader.specs.declared.sequence.File.the-variants.{AsMapping}
 use Rattle.reader.specs.declared.sequence.State.{State}
@@ -23,30 +25,23 @@ factsOf header last s = record { width = field header 0 7; bindings = s .binding
 
 -- the words passed one by one; "or file ended early (place: word count)": a mapping ends in its glue count
 abbrev pub ended : List ℕ → Reading → MappingRead
+ended ws (Stopped r) = Refused r
 ended ws (Passed s) =
-    if eqb (s .kind) GLUE then Accepted (factsOf (getD ws 0 0) (getD ws (length ws - 1) 0) s) else Refused 2 (length ws)
-ended ws (Stopped number place) = Refused number place
+    if not (eqb (s .stage) GLUE) then Refused (refusal 2 (length ws))
+    else Accepted (factsOf (getD ws 0 0) (getD ws (length ws - 1) 0) s)
 
 -- "1. No words, .. or over 29 in a mapping; place 0." "1 first; then word by word, 2 to 6 in each"
 unfoldable pub mappingOf : List ℕ → MappingRead
 mappingOf ws =
-    if ltb (length ws) 1 then Refused 1 0
-    else if ltb mostMappingWords (length ws) then Refused 1 0
+    if ltb (length ws) 1 then Refused (refusal 1 0)
+    else if ltb mostMappingWords (length ws) then Refused (refusal 1 0)
     else ended ws (reading AsMapping nothing 0 ws)
 
--- "A .. mapping is well formed if none of 1 to 6 below holds of its words."
-abbrev pub isAccepted : MappingRead → Bool
-isAccepted (Accepted mapping) = true
-isAccepted (Refused number place) = false
-
-abbrev pub isMapping : List ℕ → Bool
-isMapping ws = isAccepted (mappingOf ws)
+-- "A .. mapping is well formed if none of 1 to 6 below holds of its words": it then says this
+abbrev pub WellFormedMapping : List ℕ → Mapping → Type 0
+WellFormedMapping ws mapping = mappingOf ws ≡ Accepted mapping
 
 -- the answer in document 01's numbers
 abbrev pub paperOf : MappingRead → Paper
 paperOf (Accepted mapping) = accepted (mapping .width ∷ mapping .bindings ∷ mapping .glue ∷ [])
-paperOf (Refused number place) = refused number place
-
--- the bindings begin at this word
-abbrev pub bindingsStart : ℕ
-bindingsStart = 1
+paperOf (Refused r) = told r

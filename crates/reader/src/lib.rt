@@ -4,39 +4,30 @@ mod sequence;
 mod step;
 
 use sequence::File;
+use sequence::START;
 use sequence::State;
 use step::Reading;
 use step::Step;
+use words::Prices;
+use words::Refusal;
 ghost use mathlib.Core.Path.{_≡_};
 ghost use Prim.Native.Nat.{_≤_};
 ghost use lib.ListN.{length};
-ghost use Rattle.reader.specs.Kinds.{mostJobWords};
+ghost use Rattle.reader.specs.Limits as L;
 ghost use Rattle.reader.specs.Reading as R;
 ghost use Rattle.reader.specs.Job as J;
 ghost use Rattle.reader.specs.Mapping as M;
 
-// The kinds of words.
-pub const HEADER: u32 = 1;
+// The most sources, targets and rules of a job, and the most bindings of a mapping.
+pub const MOST_SOURCES: usize = 27;
 
-pub const PRICES: u32 = 2;
+pub const MOST_TARGETS: usize = 27;
 
-pub const SOURCE: u32 = 3;
+pub const MOST_RULES: usize = 512;
 
-pub const TARGET: u32 = 4;
+pub const MOST_BINDINGS: usize = 27;
 
-pub const RULE: u32 = 5;
-
-pub const BINDING: u32 = 6;
-
-pub const GLUE: u32 = 7;
-
-// The most sources of a job, which are also the most bindings of a mapping; its most targets and rules; the most words of each.
-pub const MOST_SOURCES: u32 = 27;
-
-pub const MOST_TARGETS: u32 = 27;
-
-pub const MOST_RULES: u32 = 512;
-
+// The most words of a job and of a mapping.
 pub const MOST_JOB_WORDS: usize = 568;
 
 pub const MOST_MAPPING_WORDS: usize = 29;
@@ -46,13 +37,10 @@ pub const SOURCES_START: usize = 2;
 
 pub const BINDINGS_START: usize = 1;
 
-// What a job says: its width, the prices of an inverter, a two-input gate and a two-way multiplexer, and how many sources, targets
-// and rules its words hold, in this order, from word 2 on.
+// What a job says: its width, its prices, and how many sources, targets and rules its words hold, in this order, behind these.
 pub struct Job {
     pub width: u32,
-    pub inverter: u8,
-    pub gate: u8,
-    pub multiplexer: u8,
+    pub prices: Prices,
     pub sources: u32,
     pub targets: u32,
     pub rules: u32,
@@ -60,10 +48,10 @@ pub struct Job {
 
 pub enum JobRead {
     Accepted(Job),
-    Refused { number: u32, place: usize },
+    Refused(Refusal),
 }
 
-// What a mapping says: its width, how many bindings its words hold, from word 1 on, and its glue count.
+// What a mapping says: its width, how many bindings its words hold, and its glue count.
 pub struct Mapping {
     pub width: u32,
     pub bindings: u32,
@@ -72,17 +60,17 @@ pub struct Mapping {
 
 pub enum MappingRead {
     Accepted(Mapping),
-    Refused { number: u32, place: usize },
+    Refused(Refusal),
 }
 
 // Word by word: the state after the last one, or the first refusal.
 fn read_words(file: File, words: &[u32]) -> Reading
-    requires { ⌜ length (now words) ≤ mostJobWords ⌝ }
+    requires { ⌜ length (now words) ≤ L.mostJobWords ⌝ }
     ensures { λ r. ⌜ r ≡ R.reading file R.nothing 0 (now (words .entry)) ⌝ }
 {
     let mut s = State {
-        kind: 0,
-        function: 0,
+        stage: START,
+        function: alu::NO_FUNCTION,
         sources: 0,
         targets: 0,
         rules: 0,
@@ -96,7 +84,7 @@ fn read_words(file: File, words: &[u32]) -> Reading
                 s = t;
             }
             Step::Bad(number) => {
-                return Reading::Stopped { number, place: i };
+                return Reading::Stopped(Refusal { number, place: i });
             }
         }
         i += 1;
@@ -104,14 +92,24 @@ fn read_words(file: File, words: &[u32]) -> Reading
     Reading::Passed(s)
 }
 
+// The prices of a job's second word.
+fn prices_in(word: u32) -> Prices
+    ensures { λ r. ⌜ r ≡ J.pricesIn word ⌝ }
+{
+    Prices {
+        inverter: ((word >> 16) & 0xff) as u8,
+        gate: ((word >> 8) & 0xff) as u8,
+        multiplexer: (word & 0xff) as u8,
+    }
+}
+
 fn job_facts(header: u32, prices: u32, s: State) -> Job
     ensures { λ r. ⌜ r ≡ J.factsOf header prices s ⌝ }
 {
+    let prices = prices_in(prices);
     Job {
         width: header & 0x7f,
-        inverter: ((prices >> 16) & 0xff) as u8,
-        gate: ((prices >> 8) & 0xff) as u8,
-        multiplexer: (prices & 0xff) as u8,
+        prices,
         sources: s.sources,
         targets: s.targets,
         rules: s.rules,
@@ -122,26 +120,26 @@ pub fn read_job(words: &[u32]) -> JobRead
     ensures { λ r. ⌜ r ≡ J.jobOf (now (words .entry)) ⌝ }
 {
     if words.len() < 1 {
-        return JobRead::Refused {
+        return JobRead::Refused(Refusal {
             number: 1,
             place: 0,
-        };
+        });
     }
     if MOST_JOB_WORDS < words.len() {
-        return JobRead::Refused {
+        return JobRead::Refused(Refusal {
             number: 1,
             place: 0,
-        };
+        });
     }
     let reading = read_words(File::AsJob, words);
     match reading {
-        Reading::Stopped { number, place } => JobRead::Refused { number, place },
+        Reading::Stopped(refusal) => JobRead::Refused(refusal),
         Reading::Passed(s) => {
-            if s.kind < SOURCE {
-                return JobRead::Refused {
+            if s.sources < 1 {
+                return JobRead::Refused(Refusal {
                     number: 2,
                     place: words.len(),
-                };
+                });
             }
             JobRead::Accepted(job_facts(words[0], words[1], s))
         }
@@ -162,41 +160,41 @@ pub fn read_mapping(words: &[u32]) -> MappingRead
     ensures { λ r. ⌜ r ≡ M.mappingOf (now (words .entry)) ⌝ }
 {
     if words.len() < 1 {
-        return MappingRead::Refused {
+        return MappingRead::Refused(Refusal {
             number: 1,
             place: 0,
-        };
+        });
     }
     if MOST_MAPPING_WORDS < words.len() {
-        return MappingRead::Refused {
+        return MappingRead::Refused(Refusal {
             number: 1,
             place: 0,
-        };
+        });
     }
     let reading = read_words(File::AsMapping, words);
     match reading {
-        Reading::Stopped { number, place } => MappingRead::Refused { number, place },
+        Reading::Stopped(refusal) => MappingRead::Refused(refusal),
         Reading::Passed(s) => {
-            if s.kind == GLUE {
-                return MappingRead::Accepted(mapping_facts(words[0], words[words.len() - 1], s));
+            if s.stage != words::GLUE {
+                return MappingRead::Refused(Refusal {
+                    number: 2,
+                    place: words.len(),
+                });
             }
-            MappingRead::Refused {
-                number: 2,
-                place: words.len(),
-            }
+            MappingRead::Accepted(mapping_facts(words[0], words[words.len() - 1], s))
         }
     }
 }
 
 // The words at which a job's targets and rules begin.
 pub fn targets_start(job: Job) -> usize
-    ensures { λ r. ⌜ r ≡ J.targetsStart job ⌝ }
+    ensures { λ r. ⌜ r ≡ L.targetsStart job ⌝ }
 {
     SOURCES_START + job.sources as usize
 }
 
 pub fn rules_start(job: Job) -> usize
-    ensures { λ r. ⌜ r ≡ J.rulesStart job ⌝ }
+    ensures { λ r. ⌜ r ≡ L.rulesStart job ⌝ }
 {
     SOURCES_START + job.sources as usize + job.targets as usize
 }

@@ -1,14 +1,15 @@
 // Refusal 2: "Kind out of sequence or past its count".
-use crate::BINDING;
-use crate::GLUE;
-use crate::HEADER;
+use crate::MOST_BINDINGS;
 use crate::MOST_RULES;
 use crate::MOST_SOURCES;
 use crate::MOST_TARGETS;
-use crate::PRICES;
-use crate::RULE;
-use crate::SOURCE;
-use crate::TARGET;
+use words::BINDING;
+use words::GLUE;
+use words::HEADER;
+use words::PRICES;
+use words::RULE;
+use words::SOURCE;
+use words::TARGET;
 ghost use mathlib.Core.Path.{_≡_};
 ghost use Rattle.reader.specs.Sequence as S;
 
@@ -18,10 +19,12 @@ pub enum File {
     AsMapping,
 }
 
-// What the words so far have shown: the kind of the last one, 0 before the first, its function, and how many words of each kind
-// there were.
+// The stage of a file is the kind of its last word so far, or this one before the first.
+pub const START: u32 = 0;
+
+// What the words so far have shown: the stage, the function of the last word, and how many words of each kind there were.
 pub struct State {
-    pub kind: u32,
+    pub stage: u32,
     pub function: u32,
     pub sources: u32,
     pub targets: u32,
@@ -32,31 +35,39 @@ pub struct State {
 fn job_sequence(s: State, kind: u32) -> bool
     ensures { λ r. ⌜ r ≡ S.jobSequence s kind ⌝ }
 {
+    let at = s.stage;
     if kind == HEADER {
-        return s.kind == 0;
+        return at == START;
     }
     if kind == PRICES {
-        return s.kind == HEADER;
+        return at == HEADER;
     }
     if kind == SOURCE {
-        return (PRICES <= s.kind) & (s.kind <= SOURCE) & (s.sources < MOST_SOURCES);
+        return ((at == PRICES) | (at == SOURCE)) & ((s.sources as usize) < MOST_SOURCES);
     }
     if kind == TARGET {
-        return (SOURCE <= s.kind) & (s.kind <= TARGET) & (s.targets < MOST_TARGETS);
+        return ((at == SOURCE) | (at == TARGET)) & ((s.targets as usize) < MOST_TARGETS);
     }
-    (kind == RULE) & (SOURCE <= s.kind) & (s.rules < MOST_RULES)
+    if kind == RULE {
+        return ((at == SOURCE) | (at == TARGET) | (at == RULE)) & ((s.rules as usize) < MOST_RULES);
+    }
+    false
 }
 
 fn mapping_sequence(s: State, kind: u32) -> bool
     ensures { λ r. ⌜ r ≡ S.mappingSequence s kind ⌝ }
 {
+    let at = s.stage;
     if kind == HEADER {
-        return s.kind == 0;
+        return at == START;
     }
     if kind == BINDING {
-        return ((s.kind == HEADER) | (s.kind == BINDING)) & (s.bindings < MOST_SOURCES);
+        return ((at == HEADER) | (at == BINDING)) & ((s.bindings as usize) < MOST_BINDINGS);
     }
-    (kind == GLUE) & ((s.kind == HEADER) | (s.kind == BINDING))
+    if kind == GLUE {
+        return (at == HEADER) | (at == BINDING);
+    }
+    false
 }
 
 // May a word of this kind come next?

@@ -1,19 +1,21 @@
 // One word: refusals 2 to 6 in this order, or the state after it.
-use crate::BINDING;
-use crate::GLUE;
-use crate::HEADER;
-use crate::PRICES;
-use crate::RULE;
-use crate::SOURCE;
-use crate::TARGET;
 use crate::sequence::File;
 use crate::sequence::State;
 use crate::sequence::in_sequence;
+use words::BINDING;
+use words::GLUE;
+use words::HEADER;
+use words::NO_REFUSAL;
+use words::PRICES;
+use words::RULE;
+use words::Refusal;
+use words::SOURCE;
+use words::TARGET;
 use words::content_of;
 use words::kind_of;
 ghost use mathlib.Core.Path.{_≡_};
 ghost use Prim.Native.Nat.{_≤_};
-ghost use Rattle.reader.specs.Kinds.{mostJobWords};
+ghost use Rattle.reader.specs.Limits.{mostJobWords};
 ghost use Rattle.reader.specs.Reading as R;
 ghost use Rattle.reader.specs.Asked as Q;
 
@@ -26,51 +28,55 @@ pub enum Step {
 // What all of them give.
 pub enum Reading {
     Passed(State),
-    Stopped { number: u32, place: usize },
+    Stopped(Refusal),
 }
 
-// Refusal 3 unless the layout fits.
-fn layout(fits: bool) -> u32
-    ensures { λ r. ⌜ r ≡ R.layout fits ⌝ }
+// What a header must be, in a job and in a mapping.
+fn header_fits(file: File, word: u32) -> bool
+    ensures { λ r. ⌜ r ≡ R.headerFits file word ⌝ }
 {
-    if fits { 0 } else { 3 }
+    alu::is_width(content_of(word))
 }
 
-// The refusal that the bits below the kind give: 3, of a recipe also 5 or 6, or 0.
-fn content_fault(word: u32) -> u32
-    ensures { λ r. ⌜ r ≡ R.contentFault word ⌝ }
+// Refusal 3 unless this holds: the bits below the kind are as the layout says.
+fn fits(file: File, word: u32) -> bool
+    ensures { λ r. ⌜ r ≡ R.fits file word ⌝ }
 {
     let kind = kind_of(word);
     let content = content_of(word);
     if kind == HEADER {
-        return layout(alu::is_width(content));
+        return header_fits(file, word);
     }
     if kind == PRICES {
-        return layout(content < 0x0100_0000);
+        return content < 0x0100_0000;
     }
     if kind == SOURCE {
-        return layout(alu::is_function(content));
+        return alu::is_function(content);
     }
     if kind == TARGET {
-        return layout(alu::is_function(content));
+        return alu::is_function(content);
     }
     if kind == GLUE {
-        return 0;
+        return true;
     }
-    recipe::recipe_fault(word)
+    recipe::laid_out(word)
 }
 
-// The function of a source or a target, the source function of a binding.
+// The function by which a word rises.
 fn function_in(word: u32) -> u32
     ensures { λ r. ⌜ r ≡ R.functionIn word ⌝ }
 {
-    if kind_of(word) == BINDING {
-        return recipe::source_of(word);
+    let kind = kind_of(word);
+    if kind == SOURCE {
+        return words::source_function(word);
     }
-    content_of(word)
+    if kind == TARGET {
+        return words::target_function(word);
+    }
+    recipe::source_of(word)
 }
 
-// Is the function above the one before? Rules need no order.
+// Refusal 4 unless this holds: the function is above the one before. Rules need no order.
 fn rises(s: State, word: u32) -> bool
     ensures { λ r. ⌜ r ≡ R.rises s word ⌝ }
 {
@@ -78,27 +84,36 @@ fn rises(s: State, word: u32) -> bool
     if kind == RULE {
         return true;
     }
-    if s.kind == kind {
+    if s.stage == kind {
         return s.function < function_in(word);
     }
     true
 }
 
-// The refusal of a word, 2 to 6, or 0.
+// The refusal of a word, 2 to 6, or none.
 fn word_fault(file: File, s: State, word: u32) -> u32
     ensures { λ r. ⌜ r ≡ R.wordFault file s word ⌝ }
 {
-    if !in_sequence(file, s, kind_of(word)) {
+    let kind = kind_of(word);
+    if !in_sequence(file, s, kind) {
         return 2;
     }
-    let fault = content_fault(word);
-    if fault == 3 {
+    if !fits(file, word) {
         return 3;
     }
     if !rises(s, word) {
         return 4;
     }
-    fault
+    if !words::is_recipe(kind) {
+        return NO_REFUSAL;
+    }
+    if recipe::reads_undriven(word) {
+        return 5;
+    }
+    if recipe::shows_other(word) {
+        return 6;
+    }
+    NO_REFUSAL
 }
 
 fn raised(count: u32, more: bool) -> u32
@@ -115,7 +130,7 @@ fn after(s: State, word: u32) -> State
 {
     let kind = kind_of(word);
     State {
-        kind,
+        stage: kind,
         function: function_in(word),
         sources: raised(s.sources, kind == SOURCE),
         targets: raised(s.targets, kind == TARGET),
@@ -129,7 +144,7 @@ pub fn pass(file: File, s: State, word: u32) -> Step
     ensures { λ r. ⌜ r ≡ R.stepOf file s word ⌝ }
 {
     let fault = word_fault(file, s, word);
-    if fault == 0 {
+    if fault == NO_REFUSAL {
         return Step::Next(after(s, word));
     }
     Step::Bad(fault)

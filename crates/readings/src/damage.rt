@@ -1,15 +1,12 @@
 // Random damage to a file.
-use crate::answer::Form;
-use crate::files::put;
-use crate::random::chance;
+use crate::beside::ANY;
+use crate::beside::compare;
 use crate::random::draw;
-use crate::random::random_job;
-use crate::random::random_mapping;
+use crate::random::random_file;
 use crate::random::random_word;
-use crate::second::at;
-use crate::tally::Tally;
-use crate::tally::compare;
-use crate::tally::empty;
+use reference::Numbers;
+use reference::at;
+use reference::put;
 use std::num::wrapping_add_usize;
 
 // Removes the word at a place from n words.
@@ -36,7 +33,7 @@ pub fn repeat(words: &mut [u32], place: usize, n: usize) {
 fn any_word(state: &mut u64) -> u32 {
     let kind = draw(state, 16);
     let function = draw(state, 30);
-    if chance(state, 2) {
+    if draw(state, 2) == 0 {
         return random_word(state, kind, function);
     }
     (kind << 28) | draw(state, 0x1000_0000)
@@ -48,7 +45,7 @@ fn change(words: &mut [u32], place: usize, state: &mut u64) {
     let how = draw(state, 4);
     let bit = draw(state, 32);
     if how < 2 {
-        put(words, place, old ^ (1 << bit));
+        put(words, place, old ^ (1u32 << (bit % 32)));
         return;
     }
     if how == 2 {
@@ -60,7 +57,7 @@ fn change(words: &mut [u32], place: usize, state: &mut u64) {
 
 // Damages n words at a place: a change, a cut, a word too few, a word twice, or one too many; past the end, one more. How many
 // words there are then.
-pub fn damage(words: &mut [u32], n: usize, place: usize, state: &mut u64) -> usize {
+fn damage(words: &mut [u32], n: usize, place: usize, state: &mut u64) -> usize {
     if n <= place {
         put(words, n, any_word(state));
         return wrapping_add_usize(n, 1);
@@ -83,13 +80,6 @@ pub fn damage(words: &mut [u32], n: usize, place: usize, state: &mut u64) -> usi
     }
     put(words, place, any_word(state));
     wrapping_add_usize(n, 1)
-}
-
-fn random_file(form: Form, words: &mut [u32], state: &mut u64) -> usize {
-    match form {
-        Form::Job => random_job(words, state),
-        Form::Mapping => random_mapping(words, state),
-    }
 }
 
 // A place among n words: near the front, near the end, or anywhere.
@@ -122,16 +112,17 @@ fn damaged(words: &mut [u32], n: usize, state: &mut u64) -> usize {
 }
 
 // Random files, each damaged up to three times. The seed is fixed.
-pub fn damaged_files(form: Form, files: u32) -> Tally {
+pub fn damaged_files(of_job: bool, files: u32) -> Numbers {
     let mut words = [0u32; 600];
     let mut state = 0x2545_f491_4f6c_dd1d;
-    let mut tally = empty();
+    let mut all = reference::no_numbers();
     let mut i = 0;
     while i < files {
-        let n = random_file(form, &mut words, &mut state);
+        let n = random_file(of_job, &mut words, &mut state);
         let count = damaged(&mut words, n, &mut state);
-        tally = compare(tally, form, &words, count);
+        let next = compare(all, of_job, &words, count, ANY, 0);
+        all = next;
         i += 1;
     }
-    tally
+    all
 }

@@ -1,126 +1,151 @@
 // Files just within and just past each limit, and words of which two refusals hold.
-use crate::answer::Form;
-use crate::files::plain_job;
-use crate::files::plain_mapping;
-use crate::files::put;
-use crate::tally::Tally;
-use crate::tally::empty;
-use crate::tally::expect;
+use crate::beside::compare;
+use crate::files::plain;
+use reference::Numbers;
+use reference::put;
 
-// A job of these sizes, which is accepted (0) or refused with this number at this place.
-fn job(
-    tally: Tally,
-    sources: usize,
-    targets: usize,
-    rules: usize,
-    number: u32,
-    place: usize,
-) -> Tally {
-    let mut words = [0u32; 600];
-    let n = plain_job(&mut words, sources, targets, rules);
-    expect(tally, Form::Job, &words, n, number, place)
-}
+// A file of some sizes, by three digits each: sources, or bindings; targets; rules; the words read, 999 for all of them; the number with
+// which the file is refused, 0 for none; and the place.
+pub const SOURCES: [u64; 8] = [
+    000_000_000_999_002_002,
+    000_001_000_999_002_002,
+    001_000_000_999_000_000,
+    001_001_001_999_000_000,
+    027_000_000_999_000_000,
+    027_027_000_999_000_000,
+    028_000_000_999_002_029,
+    028_027_009_999_002_029,
+];
 
-// A mapping of so many bindings, of which only the first words are read, or of which more than all.
-fn mapping(tally: Tally, bindings: usize, count: usize, number: u32, place: usize) -> Tally {
-    let mut words = [0u32; 600];
-    plain_mapping(&mut words, bindings);
-    expect(tally, Form::Mapping, &words, count, number, place)
-}
+pub const TARGETS: [u64; 4] = [
+    001_000_001_999_000_000,
+    001_027_001_999_000_000,
+    001_028_000_999_002_030,
+    027_028_009_999_002_056,
+];
 
-pub fn sources() -> Tally {
-    let none = job(job(empty(), 0, 0, 0, 2, 2), 0, 1, 0, 2, 2);
-    let one = job(job(none, 1, 0, 0, 0, 0), 1, 1, 1, 0, 0);
-    let most = job(job(one, 27, 0, 0, 0, 0), 27, 27, 0, 0, 0);
-    job(job(most, 28, 0, 0, 2, 29), 28, 27, 9, 2, 29)
-}
+pub const RULES: [u64; 4] = [
+    001_000_512_999_000_000,
+    027_026_512_999_000_000,
+    001_000_513_999_002_515,
+    027_026_513_999_002_567,
+];
 
-pub fn targets() -> Tally {
-    let some = job(job(empty(), 1, 0, 1, 0, 0), 1, 27, 1, 0, 0);
-    job(job(some, 1, 28, 0, 2, 30), 27, 28, 9, 2, 56)
-}
+pub const JOB_WORDS: [u64; 5] = [
+    027_027_512_999_000_000,
+    027_027_513_999_001_000,
+    028_027_512_999_001_000,
+    027_027_540_999_001_000,
+    000_000_000_000_001_000,
+];
 
-pub fn rules() -> Tally {
-    let most = job(job(empty(), 1, 0, 512, 0, 0), 27, 26, 512, 0, 0);
-    job(job(most, 1, 0, 513, 2, 515), 27, 26, 513, 2, 567)
-}
+pub const BINDINGS: [u64; 8] = [
+    000_000_000_002_000_000,
+    027_000_000_029_000_000,
+    000_000_000_001_002_001,
+    027_000_000_028_002_028,
+    028_000_000_029_002_028,
+    028_000_000_028_002_028,
+    000_000_000_003_002_002,
+    026_000_000_029_002_028,
+];
 
-pub fn job_words() -> Tally {
-    let ends = job(job(empty(), 27, 27, 512, 0, 0), 27, 27, 513, 1, 0);
-    let past = job(job(ends, 28, 27, 512, 1, 0), 27, 27, 540, 1, 0);
-    expect(past, Form::Job, &[], 0, 1, 0)
-}
+pub const MAPPING_WORDS: [u64; 4] = [
+    027_000_000_030_001_000,
+    028_000_000_030_001_000,
+    000_000_000_600_001_000,
+    000_000_000_000_001_000,
+];
 
-pub fn bindings() -> Tally {
-    let whole = mapping(mapping(empty(), 0, 2, 0, 0), 27, 29, 0, 0);
-    let cut = mapping(mapping(whole, 0, 1, 2, 1), 27, 28, 2, 28);
-    let many = mapping(mapping(cut, 28, 29, 2, 28), 28, 28, 2, 28);
-    mapping(mapping(many, 0, 3, 2, 2), 26, 29, 2, 28)
-}
+// A file with one word set to another, by hexadecimal digits: two for its place, two for the number, 0 for none, eight for the word.
+pub const WIDTHS: [u64; 6] = [
+    0x00_00_1000_0001,
+    0x00_00_1000_0040,
+    0x00_03_1000_0000,
+    0x00_03_1000_0041,
+    0x00_03_1000_0090,
+    0x00_03_1800_0010,
+];
 
-pub fn mapping_words() -> Tally {
-    let past = mapping(mapping(empty(), 27, 30, 1, 0), 28, 30, 1, 0);
-    expect(mapping(past, 0, 600, 1, 0), Form::Mapping, &[], 0, 1, 0)
-}
+pub const PRICES: [u64; 4] = [
+    0x01_00_2000_0000,
+    0x01_00_20ff_ffff,
+    0x01_03_2100_0000,
+    0x01_03_2800_0000,
+];
 
-// One word of a job of 3 sources, 3 targets and 3 rules set to another.
-fn job_with(tally: Tally, place: usize, word: u32, number: u32) -> Tally {
-    let mut words = [0u32; 600];
-    plain_job(&mut words, 3, 3, 3);
-    put(&mut words, place, word);
-    let at = if number == 0 { 0 } else { place };
-    expect(tally, Form::Job, &words, 11, number, at)
-}
+pub const FUNCTIONS: [u64; 8] = [
+    0x04_00_3000_001b,
+    0x04_03_3000_001c,
+    0x02_03_3000_0000,
+    0x05_03_4000_0000,
+    0x07_00_4000_001b,
+    0x07_03_4000_001c,
+    0x04_03_3000_0023,
+    0x07_03_4800_0003,
+];
 
-// One word of a mapping of 3 bindings set to another.
-fn mapping_with(tally: Tally, place: usize, word: u32, number: u32) -> Tally {
-    let mut words = [0u32; 600];
-    plain_mapping(&mut words, 3);
-    put(&mut words, place, word);
-    let at = if number == 0 { 0 } else { place };
-    expect(tally, Form::Mapping, &words, 5, number, at)
-}
-
-pub fn widths() -> Tally {
-    let within = job_with(job_with(empty(), 0, 0x1000_0001, 0), 0, 0x1000_0040, 0);
-    let past = job_with(job_with(within, 0, 0x1000_0000, 3), 0, 0x1000_0041, 3);
-    let bits = job_with(job_with(past, 0, 0x1000_0090, 3), 0, 0x1800_0010, 3);
-    let of_mapping = mapping_with(mapping_with(bits, 0, 0x1000_0001, 0), 0, 0x1000_0040, 0);
-    let past_mapping = mapping_with(
-        mapping_with(of_mapping, 0, 0x1000_0000, 3),
-        0,
-        0x1000_0041,
-        3,
-    );
-    mapping_with(
-        mapping_with(past_mapping, 0, 0x1000_0090, 3),
-        0,
-        0x1800_0010,
-        3,
-    )
-}
-
-pub fn prices() -> Tally {
-    let within = job_with(job_with(empty(), 1, 0x2000_0000, 0), 1, 0x20ff_ffff, 0);
-    job_with(job_with(within, 1, 0x2100_0000, 3), 1, 0x2800_0000, 3)
-}
-
-pub fn functions() -> Tally {
-    let source = job_with(job_with(empty(), 4, 0x3000_001b, 0), 4, 0x3000_001c, 3);
-    let zero = job_with(job_with(source, 2, 0x3000_0000, 3), 5, 0x4000_0000, 3);
-    let target = job_with(job_with(zero, 7, 0x4000_001b, 0), 7, 0x4000_001c, 3);
-    job_with(job_with(target, 4, 0x3000_0023, 3), 7, 0x4800_0003, 3)
-}
-
-pub fn glue_counts() -> Tally {
-    mapping_with(mapping_with(empty(), 4, 0x7000_0000, 0), 4, 0x7fff_ffff, 0)
-}
+pub const GLUE_COUNTS: [u64; 2] = [0x04_00_7000_0000, 0x04_00_7fff_ffff];
 
 // Words of which two refusals hold: the lower number is given.
-pub fn orders() -> Tally {
-    let kind = job_with(job_with(empty(), 6, 0x3000_0000, 2), 1, 0x1000_0000, 2);
-    let source = job_with(kind, 5, 0x3000_0001, 4);
-    let layout = mapping_with(source, 2, 0x6087_c960, 3);
-    let function = mapping_with(mapping_with(layout, 2, 0x6098_0140, 4), 2, 0x6084_0000, 4);
-    mapping_with(function, 2, 0x6118_0140, 5)
+pub const JOB_ORDERS: [u64; 3] = [0x06_02_3000_0000, 0x01_02_1000_0000, 0x05_04_3000_0001];
+
+pub const MAPPING_ORDERS: [u64; 4] = [
+    0x02_03_6087_c960,
+    0x02_04_6098_0140,
+    0x02_04_6084_0000,
+    0x02_05_6118_0140,
+];
+
+fn sized(all: Numbers, of_job: bool, row: u64) -> Numbers {
+    let mut words = [0u32; 600];
+    let sources = row / 1_000_000_000_000_000 % 1000;
+    let targets = row / 1_000_000_000_000 % 1000;
+    let rules = row / 1_000_000_000 % 1000;
+    let read = (row / 1_000_000 % 1000) as usize;
+    let number = row / 1000 % 1000;
+    let place = row % 1000;
+    let size = plain(
+        of_job,
+        &mut words,
+        sources as usize,
+        targets as usize,
+        rules as usize,
+    );
+    let n = if read == 999 { size } else { read };
+    compare(all, of_job, &words, n, number as u32, place as usize)
+}
+
+// In a job of 3 sources, 3 targets and 3 rules, or a mapping of 3 bindings.
+fn replaced(all: Numbers, of_job: bool, row: u64) -> Numbers {
+    let mut words = [0u32; 600];
+    let place = (row / 0x100_0000_0000 % 256) as usize;
+    let number = (row / 0x1_0000_0000 % 256) as u32;
+    let word = (row % 0x1_0000_0000) as u32;
+    let n = plain(of_job, &mut words, 3, 3, 3);
+    put(&mut words, place, word);
+    let at = if number == 0 { 0 } else { place };
+    compare(all, of_job, &words, n, number, at)
+}
+
+pub fn sizes(of_job: bool, rows: &[u64]) -> Numbers {
+    let mut all = reference::no_numbers();
+    let mut i = 0;
+    while i < rows.len() {
+        let next = sized(all, of_job, rows[i]);
+        all = next;
+        i += 1;
+    }
+    all
+}
+
+pub fn words(all: Numbers, of_job: bool, rows: &[u64]) -> Numbers {
+    let mut all = all;
+    let mut i = 0;
+    while i < rows.len() {
+        let next = replaced(all, of_job, rows[i]);
+        all = next;
+        i += 1;
+    }
+    all
 }

@@ -1,43 +1,31 @@
 // Random files that both readers accept.
-use crate::files::put;
+use reference::next;
+use reference::number;
+use reference::put;
 use std::num::wrapping_add_usize;
 ghost use Prim.Native.Nat.{_≤_, _<_};
 
-// A random number below another: Marsaglia's 64-bit xorshift.
+// A random number below another.
 pub fn draw(state: &mut u64, below: u32) -> u32
     requires { ⌜ 1 ≤ below ⌝ }
     ensures { λ r. ⌜ r < below ⌝ }
 {
-    let x = *state;
-    let a = x ^ (x << 13);
-    let b = a ^ (a >> 7);
-    let c = b ^ (b << 17);
-    *state = c;
-    ((c >> 32) % 4294967296) as u32 % below
-}
-
-pub fn chance(state: &mut u64, odds: u32) -> bool
-    requires { ⌜ 1 ≤ odds ⌝ }
-{
-    draw(state, odds) == 0
-}
-
-// The target and the outputs of a recipe for a comparison.
-fn comparison_outputs(state: &mut u64) -> u32 {
-    let which = draw(state, 3);
-    if which == 0 {
-        return ((draw(state, 5) + 1) << 18) | (draw(state, 13) + 3);
-    }
-    if which == 1 {
-        return ((draw(state, 16) + 6) << 18) | (draw(state, 9) + 3);
-    }
-    ((draw(state, 6) + 22) << 18) | (draw(state, 2) + 1)
+    let x = next(*state);
+    *state = x;
+    ((x >> 32) % 0x1_0000_0000) as u32 % below
 }
 
 // The target and the outputs of a recipe for a function.
 fn outputs(state: &mut u64, function: u32) -> u32 {
     if 21 < function {
-        return comparison_outputs(state);
+        let which = draw(state, 3);
+        if which == 0 {
+            return ((draw(state, 5) + 1) << 18) | (draw(state, 13) + 3);
+        }
+        if which == 1 {
+            return ((draw(state, 16) + 6) << 18) | (draw(state, 9) + 3);
+        }
+        return ((draw(state, 6) + 22) << 18) | (draw(state, 2) + 1);
     }
     let main = (draw(state, 2) + 1) << 8;
     if 5 < function {
@@ -47,10 +35,13 @@ fn outputs(state: &mut u64, function: u32) -> u32 {
     ((draw(state, 5) + 1) << 18) | main | cout | 32
 }
 
-// A recipe for a function that passes 3, 5 and 6.
-fn random_recipe(state: &mut u64, kind: u32, function: u32) -> u32 {
+// A word of a kind for a function; a recipe passes 3, 5 and 6.
+pub fn random_word(state: &mut u64, kind: u32, function: u32) -> u32 {
+    if kind < 5 {
+        return (kind << 28) | function;
+    }
     let head = (kind << 28) | (function << 23);
-    let scratch = chance(state, 2);
+    let scratch = draw(state, 2) == 0;
     if (5 < function) & (function < 22) & scratch {
         return head | draw(state, 16);
     }
@@ -60,14 +51,7 @@ fn random_recipe(state: &mut u64, kind: u32, function: u32) -> u32 {
     head | left | right | carry | outputs(state, function)
 }
 
-pub fn random_word(state: &mut u64, kind: u32, function: u32) -> u32 {
-    if kind < 5 {
-        return (kind << 28) | function;
-    }
-    random_recipe(state, kind, function)
-}
-
-// A word of a kind for a function, or none; the place after it.
+// A word of a kind for a function, one time in one to eight; the place after it.
 fn maybe(
     words: &mut [u32],
     place: usize,
@@ -75,10 +59,8 @@ fn maybe(
     function: u32,
     odds: u32,
     state: &mut u64,
-) -> usize
-    requires { ⌜ 1 ≤ odds ⌝ }
-{
-    if chance(state, odds) {
+) -> usize {
+    if draw(state, odds % 8 + 1) == 0 {
         put(words, place, random_word(state, kind, function));
         return wrapping_add_usize(place, 1);
     }
@@ -87,7 +69,7 @@ fn maybe(
 
 // Words of one kind for some of the functions, in order; the place after them.
 fn random_table(words: &mut [u32], from: usize, kind: u32, state: &mut u64) -> usize {
-    let odds = draw(state, 8) + 1;
+    let odds = draw(state, 8);
     let mut place = from;
     let mut function = 1;
     while function <= 27 {
@@ -98,18 +80,9 @@ fn random_table(words: &mut [u32], from: usize, kind: u32, state: &mut u64) -> u
 }
 
 // More than 12 rules now and then.
-fn rules_below(state: &mut u64) -> u32
-    ensures { λ r. ⌜ 1 ≤ r ⌝ }
-{
-    if chance(state, 50) {
-        return 513;
-    }
-    12
-}
-
 fn random_rules(words: &mut [u32], from: usize, state: &mut u64) -> usize {
-    let below = rules_below(state);
-    let count = draw(state, below);
+    let many = number(draw(state, 50) == 0) % 2;
+    let count = draw(state, 12 + 501 * many);
     let mut place = from;
     let mut i = 0;
     while i < count {
@@ -121,8 +94,8 @@ fn random_rules(words: &mut [u32], from: usize, state: &mut u64) -> usize {
     place
 }
 
-pub fn random_job(words: &mut [u32], state: &mut u64) -> usize {
-    put(words, 0, 0x1000_0000 | (draw(state, 64) + 1));
+// A job's words after its header.
+fn random_job(words: &mut [u32], state: &mut u64) -> usize {
     put(words, 1, 0x2000_0000 | draw(state, 0x0100_0000));
     put(words, 2, 0x3000_0000 | (draw(state, 27) + 1));
     let some = random_table(words, 2, 3, state);
@@ -131,8 +104,11 @@ pub fn random_job(words: &mut [u32], state: &mut u64) -> usize {
     random_rules(words, targets, state)
 }
 
-pub fn random_mapping(words: &mut [u32], state: &mut u64) -> usize {
+pub fn random_file(of_job: bool, words: &mut [u32], state: &mut u64) -> usize {
     put(words, 0, 0x1000_0000 | (draw(state, 64) + 1));
+    if of_job {
+        return random_job(words, state);
+    }
     let end = random_table(words, 1, 6, state);
     put(words, end, 0x7000_0000 | draw(state, 0x1000_0000));
     wrapping_add_usize(end, 1)

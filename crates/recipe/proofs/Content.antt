@@ -1,15 +1,16 @@
 -- A rule and the binding made of it differ in their kind alone: words with the same content have the same recipe and the same refusals.
 use mathlib.Core.Path.{_≡_, refl}
-use mathlib.Core.Bool.{false}
+use mathlib.Core.Bool.{false, not}
 use Prim.Native.Nat.{ℕ}
 use native.Mathlib.Omega.{arith}
 use lib.Dec.{eqb}
 use Rattle.words.specs.Choice.{if_then_else_}
 use Rattle.words.specs.Field.{contentOf}
+use Rattle.words.specs.Paper.{noRefusal}
 use Rattle.words.proofs.Fields.{same-field}
 use Rattle.alu.specs.Evaluate.{isFunction}
-use Rattle.recipe.specs.Fields.{sourceOf, targetOf, vectorOf, fieldsOf}
-use Rattle.recipe.specs.Layout.{scratchLaidOut, targetLaidOut, laidOut, readsDriven, showsSource, recipeFault}
+use Rattle.recipe.specs.Fields.{sourceOf, targetOf, SCRATCH, fromScratch, vectorOf, fieldsOf}
+use Rattle.recipe.specs.Layout.{scratchLaidOut, targetLaidOut, laidOut, readsDriven, readsUndriven, showsSource, showsOther, recipeFault}
 
 module _ (v w : ℕ) (e : contentOf v ≡ contentOf w) where
   pub same-source : sourceOf v ≡ sourceOf w
@@ -36,6 +37,9 @@ module _ (v w : ℕ) (e : contentOf v ≡ contentOf w) where
         code = same-vector i;
       }
 
+  pub same-from-scratch : fromScratch v ≡ fromScratch w
+  same-from-scratch = λ i. eqb (same-target i) SCRATCH
+
   same-scratch : scratchLaidOut v ≡ scratchLaidOut w
   unfolding scratchLaidOut
   same-scratch = rw (same-source, same-field v w 4 14 e (omega arith)) refl
@@ -44,15 +48,15 @@ module _ (v w : ℕ) (e : contentOf v ≡ contentOf w) where
   unfolding laidOut
   same-layout =
       λ i.
-      if isFunction (same-source i)
-      then if eqb (same-target i) 0 then same-scratch i else targetLaidOut (same-fields i)
-      else false
+      if not (isFunction (same-source i)) then false
+      else if same-from-scratch i then same-scratch i
+      else targetLaidOut (same-fields i)
 
   pub same-fault : recipeFault v ≡ recipeFault w
-  unfolding recipeFault
+  unfolding recipeFault readsUndriven showsOther
   same-fault =
       λ i.
-      if same-layout i
-      then if eqb (same-target i) 0 then 0
-      else if readsDriven (same-fields i) then if showsSource (same-fields i) then 0 else 6 else 5
-      else 3
+      if not (same-layout i) then 3
+      else if (if same-from-scratch i then false else not (readsDriven (same-fields i))) then 5
+      else if (if same-from-scratch i then false else not (showsSource (same-fields i))) then 6
+      else noRefusal

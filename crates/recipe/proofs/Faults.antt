@@ -11,8 +11,8 @@ use Rattle.alu.specs.Function.{functionOf, drives}
 use Rattle.alu.specs.Evaluate.{isFunction}
 use Rattle.alu.specs.declared.PortSet.{PortSet}
 use Rattle.alu.specs.declared.Kind.{Kind}
-use Rattle.recipe.specs.Fields.{sourceOf, targetOf, fieldsOf}
-use Rattle.recipe.specs.Layout.{isLogic, scratchLaidOut, targetLaidOut, laidOut, reads, outputs, within, readsDriven, showsSource, recipeFault}
+use Rattle.recipe.specs.Fields.{sourceOf, fromScratch, fieldsOf}
+use Rattle.recipe.specs.Layout.{isLogic, scratchLaidOut, targetLaidOut, laidOut, reads, outputs, within, readsDriven, readsUndriven, showsSource, showsOther, recipeFault}
 use Rattle.recipe.specs.declared.Fields.{Fields}
 
 -- ---- scratch
@@ -21,13 +21,13 @@ module _ (w s : ℕ) (b : Bool) (es : s ≡ sourceOf w) (eb : b ≡ isLogic s) w
   is-logic : b ≡ isLogic (sourceOf w)
   is-logic = eb ∙ ap isLogic es
 
-  pub logic-source : b ≡ true → eqb (bitAnd (w / 2 ^ 4) 16383) 0 ≡ scratchLaidOut w
+  pub logic-source : not b ≡ false → eqb (bitAnd (w / 2 ^ 4) 16383) 0 ≡ scratchLaidOut w
   unfolding scratchLaidOut
-  logic-source h = rw (sym is-logic ∙ h) (rw (and-mask (w / 2 ^ 4) 14) refl)
+  logic-source h = rw (sym is-logic ∙ not-false b h) (rw (and-mask (w / 2 ^ 4) 14) refl)
 
-  pub other-source : b ≡ false → false ≡ scratchLaidOut w
+  pub other-source : not b ≡ true → false ≡ scratchLaidOut w
   unfolding scratchLaidOut
-  other-source h = rw (sym is-logic ∙ h) refl
+  other-source h = rw (sym is-logic ∙ not-true b h) refl
 
 -- ---- layout
 
@@ -39,16 +39,14 @@ module _ (w s : ℕ) (b : Bool) (es : s ≡ sourceOf w) (eb : b ≡ isFunction s
   unfolding laidOut
   no-source h = rw (sym source-known ∙ not-true b h) refl
 
-  module _ (t : ℕ) (et : t ≡ targetOf w) (hb : not b ≡ false) where
-    pub scratch-layout : (r : Bool) → t ≡ 0 → r ≡ scratchLaidOut w → r ≡ laidOut w
+  module _ (t : Bool) (et : t ≡ fromScratch w) (hb : not b ≡ false) where
+    pub scratch-layout : (r : Bool) → t ≡ true → r ≡ scratchLaidOut w → r ≡ laidOut w
     unfolding laidOut
-    scratch-layout r z e = rw (sym source-known ∙ not-false b hb) (rw (eq-eqb (targetOf w) 0 (sym et ∙ z)) e)
+    scratch-layout r z e = rw (sym source-known ∙ not-false b hb) (rw (sym et ∙ z) e)
 
-    pub target-layout : (r : Bool) (u : Fields) → (t ≡ 0 → ⊥) → u ≡ fieldsOf w → r ≡ targetLaidOut u → r ≡ laidOut w
+    pub target-layout : (r : Bool) (u : Fields) → t ≡ false → u ≡ fieldsOf w → r ≡ targetLaidOut u → r ≡ laidOut w
     unfolding laidOut
-    target-layout r u z eu e =
-        rw (sym source-known ∙ not-false b hb)
-        (rw (ne-eqb (targetOf w) 0 (λ h. z (et ∙ h))) (e ∙ ap targetLaidOut eu))
+    target-layout r u z eu e = rw (sym source-known ∙ not-false b hb) (rw (sym et ∙ z) (e ∙ ap targetLaidOut eu))
 
 -- ---- ports
 
@@ -63,6 +61,24 @@ unfolding showsSource
 exact r p q K x y ep ek eq ex ey =
     ap₂ _&&_ (ex ∙ ap₂ within ep (eq ∙ ap drives ek)) (ey ∙ ap₂ within (eq ∙ ap drives ek) ep)
 
+module _ (w : ℕ) (t : Bool) (et : t ≡ fromScratch w) where
+  pub scratch-reads : t ≡ true → false ≡ readsUndriven w
+  unfolding readsUndriven
+  scratch-reads z = rw (sym et ∙ z) refl
+
+  pub scratch-shows : t ≡ true → false ≡ showsOther w
+  unfolding showsOther
+  scratch-shows z = rw (sym et ∙ z) refl
+
+  module _ (z : t ≡ false) (u : Fields) (eu : u ≡ fieldsOf w) (d : Bool) where
+    pub target-reads : d ≡ readsDriven u → not d ≡ readsUndriven w
+    unfolding readsUndriven
+    target-reads ed = rw (sym et ∙ z) (ap not (ed ∙ ap readsDriven eu))
+
+    pub target-shows : d ≡ showsSource u → not d ≡ showsOther w
+    unfolding showsOther
+    target-shows ed = rw (sym et ∙ z) (ap not (ed ∙ ap showsSource eu))
+
 -- ---- the refusal
 
 module _ (w : ℕ) (b : Bool) (eb : b ≡ laidOut w) where
@@ -70,24 +86,16 @@ module _ (w : ℕ) (b : Bool) (eb : b ≡ laidOut w) where
   unfolding recipeFault
   bad-layout h = rw (sym eb ∙ not-true b h) refl
 
-  module _ (hb : not b ≡ false) (t : ℕ) (et : t ≡ targetOf w) where
-    pub from-scratch : t ≡ 0 → 0 ≡ recipeFault w
+  module _ (hb : not b ≡ false) (d : Bool) (ed : d ≡ readsUndriven w) where
+    pub undriven : d ≡ true → 5 ≡ recipeFault w
     unfolding recipeFault
-    from-scratch z = rw (sym eb ∙ not-false b hb) (rw (eq-eqb (targetOf w) 0 (sym et ∙ z)) refl)
+    undriven h = rw (sym eb ∙ not-false b hb, sym ed ∙ h) refl
 
-    module _ (z : t ≡ 0 → ⊥) (u : Fields) (eu : u ≡ fieldsOf w) (d : Bool) (ed : d ≡ readsDriven u) where
-      by-ports : recipeFault w ≡ (if d then (if showsSource (fieldsOf w) then 0 else 6) else 5)
+    module _ (hd : d ≡ false) (x : Bool) (ex : x ≡ showsOther w) where
+      pub other-ports : x ≡ true → 6 ≡ recipeFault w
       unfolding recipeFault
-      by-ports =
-          rw (sym eb ∙ not-false b hb)
-          (rw (ne-eqb (targetOf w) 0 (λ h. z (et ∙ h))) (rw (ed ∙ ap readsDriven eu) refl))
+      other-ports h = rw (sym eb ∙ not-false b hb, sym ed ∙ hd, sym ex ∙ h) refl
 
-      pub undriven : not d ≡ true → 5 ≡ recipeFault w
-      undriven h = sym (by-ports ∙ rw (not-true d h) refl)
-
-      module _ (hd : not d ≡ false) (x : Bool) (ex : x ≡ showsSource u) where
-        pub other-ports : not x ≡ true → 6 ≡ recipeFault w
-        other-ports h = sym (by-ports ∙ rw (not-false d hd) (rw (sym (ex ∙ ap showsSource eu) ∙ not-true x h) refl))
-
-        pub no-fault : not x ≡ false → 0 ≡ recipeFault w
-        no-fault h = sym (by-ports ∙ rw (not-false d hd) (rw (sym (ex ∙ ap showsSource eu) ∙ not-false x h) refl))
+      pub no-fault : x ≡ false → 0 ≡ recipeFault w
+      unfolding recipeFault
+      no-fault h = rw (sym eb ∙ not-false b hb, sym ed ∙ hd, sym ex ∙ h) refl

@@ -1,14 +1,23 @@
 -- Document 01, "Words": "Each recipe field is packed into its own bits of one word."
-use Prim.Native.Nat.{ℕ, _+_, _*_, _^_, _<_}
+use Prim.Native.Nat.{ℕ, _+_, _*_, _^_}
+use mathlib.Core.Bool.{Bool}
+use lib.Dec.{eqb}
 use Rattle.words.specs.Field.{field}
 use Rattle.recipe.specs.declared.Fields.{Fields}
 
--- the source function of a recipe word, and its target, 0 for from scratch
+-- the source function of a recipe word, and its target function
 abbrev pub sourceOf : ℕ → ℕ
 sourceOf w = field w 23 5
 
 abbrev pub targetOf : ℕ → ℕ
 targetOf w = field w 18 5
+
+-- "target function, or 0 for from scratch"
+abbrev pub SCRATCH : ℕ
+SCRATCH = 0
+
+abbrev pub fromScratch : ℕ → Bool
+fromScratch w = eqb (targetOf w) SCRATCH
 
 -- from scratch: "bits 3..0 are a logic vector"
 abbrev pub vectorOf : ℕ → ℕ
@@ -29,22 +38,8 @@ fieldsOf w =
       code = field w 0 4;
     }
 
--- each number fits its bits
-pub record Fit (kind : ℕ) (r : Fields) : Type 0 where
-  pub kind-fits : kind < 2 ^ 4
-  pub source-fits : r .source < 2 ^ 5
-  pub target-fits : r .target < 2 ^ 5
-  pub left-fits : r .left < 2 ^ 3
-  pub right-fits : r .right < 2 ^ 3
-  pub carry-fits : r .carry < 2 ^ 2
-  pub main-fits : r .main < 2 ^ 2
-  pub cout-fits : r .cout < 2 ^ 2
-  pub ovf-fits : r .ovf < 2 ^ 1
-  pub blank-fits : r .blank < 2 ^ 1
-  pub code-fits : r .code < 2 ^ 4
-
 -- the word of a kind and fields
-abbrev pub wordOf : ℕ → Fields → ℕ
-wordOf kind r =
+abbrev pub packed : ℕ → Fields → ℕ
+packed kind r =
     kind * 2 ^ 28 + r .source * 2 ^ 23 + r .target * 2 ^ 18 + r .left * 2 ^ 15 + r .right * 2 ^ 12 + r .carry * 2 ^ 10
     + r .main * 2 ^ 8 + r .cout * 2 ^ 6 + r .ovf * 2 ^ 5 + r .blank * 2 ^ 4 + r .code

@@ -4,10 +4,11 @@ use mathlib.Core.Bool.{Bool, true, false, not, _&&_, _||_, Bool·beq}
 use lib.Dec.{eqb, leb, ltb}
 use Rattle.words.specs.Choice.{if_then_else_}
 use Rattle.words.specs.Field.{field}
+use Rattle.words.specs.Paper.{noRefusal}
 use Rattle.alu.specs.Function.{functionOf, drives}
-use Rattle.alu.specs.Evaluate.{isFunction}
+use Rattle.alu.specs.Evaluate.{lastFunction, isFunction}
 use Rattle.alu.specs.declared.PortSet.{PortSet}
-use Rattle.recipe.specs.Fields.{sourceOf, targetOf, fieldsOf}
+use Rattle.recipe.specs.Fields.{sourceOf, fromScratch, fieldsOf}
 use Rattle.recipe.specs.declared.Fields.{Fields}
 
 -- "6 ZERO, ... 21 RIMPL (logic)"
@@ -16,12 +17,12 @@ isLogic f = if ltb f 6 then false else leb f 21
 
 -- "From scratch: the source is a logic function, bits 17..4 are zero"
 unfoldable pub scratchLaidOut : ℕ → Bool
-scratchLaidOut w = if isLogic (sourceOf w) then eqb (field w 4 14) 0 else false
+scratchLaidOut w = if not (isLogic (sourceOf w)) then false else eqb (field w 4 14) 0
 
 -- a target function, wirings "6 and 7 invalid", main output and carry out "3 invalid", bit "4 zero"
 unfoldable pub targetLaidOut : Fields → Bool
 targetLaidOut r =
-    if ltb 27 (r .target) then false
+    if ltb lastFunction (r .target) then false
     else if ltb 5 (r .left) then false
     else if ltb 5 (r .right) then false
     else if eqb (r .main) 3 then false
@@ -31,9 +32,9 @@ targetLaidOut r =
 -- the fields are as the layout says (else refusal 3)
 unfoldable pub laidOut : ℕ → Bool
 laidOut w =
-    if isFunction (sourceOf w)
-    then if eqb (targetOf w) 0 then scratchLaidOut w else targetLaidOut (fieldsOf w)
-    else false
+    if not (isFunction (sourceOf w)) then false
+    else if fromScratch w then scratchLaidOut w
+    else targetLaidOut (fieldsOf w)
 
 -- the outputs of the target that a recipe reads: codes 3 to 15 read TO0, 12 to 15 TOVF too, 1 and 2 TO1
 abbrev pub reads : Fields → PortSet
@@ -63,21 +64,24 @@ within p q =
 abbrev pub exactly : PortSet → PortSet → Bool
 exactly p q = within p q && within q p
 
--- "5. A recipe reads an output its target does not drive."
+-- "5. A recipe reads an output its target does not drive." "(5 and 6 do not concern scratch.)"
 unfoldable pub readsDriven : Fields → Bool
 readsDriven r = within (reads r) (drives (functionOf (r .target)))
+
+unfoldable pub readsUndriven : ℕ → Bool
+readsUndriven w = if fromScratch w then false else not (readsDriven (fieldsOf w))
 
 -- "6. Its outputs are not exactly its source function's ports."
 unfoldable pub showsSource : Fields → Bool
 showsSource r = exactly (outputs r) (drives (functionOf (r .source)))
 
--- the refusal of a recipe word, 3, 5 or 6 in this order, or 0. "5 and 6 do not concern scratch."
+unfoldable pub showsOther : ℕ → Bool
+showsOther w = if fromScratch w then false else not (showsSource (fieldsOf w))
+
+-- the refusal of a recipe word, 3, 5 or 6 in this order, or none
 unfoldable pub recipeFault : ℕ → ℕ
 recipeFault w =
-    if laidOut w then
-    if eqb (targetOf w) 0 then 0
-    else if readsDriven (fieldsOf w) then
-    if showsSource (fieldsOf w) then 0
-    else 6
-    else 5
-    else 3
+    if not (laidOut w) then 3
+    else if readsUndriven w then 5
+    else if showsOther w then 6
+    else noRefusal

@@ -1,7 +1,7 @@
 // Refusals 3, 5 and 6 of a recipe word, in this order.
 use crate::Fields;
+use crate::from_scratch;
 use crate::source_of;
-use crate::target_of;
 use crate::unpack;
 use alu::PortSet;
 ghost use mathlib.Core.Path.{_≡_};
@@ -19,10 +19,10 @@ fn is_logic(function: u32) -> bool
 fn scratch_laid_out(word: u32) -> bool
     ensures { λ r. ⌜ r ≡ L.scratchLaidOut word ⌝ }
 {
-    if is_logic(source_of(word)) {
-        return (word >> 4) & 0x3fff == 0;
+    if !is_logic(source_of(word)) {
+        return false;
     }
-    false
+    (word >> 4) & 0x3fff == 0
 }
 
 fn target_laid_out(fields: Fields) -> bool
@@ -46,13 +46,14 @@ fn target_laid_out(fields: Fields) -> bool
     fields.blank == 0
 }
 
-fn laid_out(word: u32) -> bool
+// Whether the fields are as the layout says.
+pub fn laid_out(word: u32) -> bool
     ensures { λ r. ⌜ r ≡ L.laidOut word ⌝ }
 {
     if !alu::is_function(source_of(word)) {
         return false;
     }
-    if target_of(word) == 0 {
+    if from_scratch(word) {
         return scratch_laid_out(word);
     }
     target_laid_out(unpack(word))
@@ -95,6 +96,16 @@ fn reads_driven(fields: Fields) -> bool
     within(reads(fields), alu::drives(alu::function_of(fields.target)))
 }
 
+// Whether a recipe reads an output that its target does not drive: refusal 5.
+pub fn reads_undriven(word: u32) -> bool
+    ensures { λ r. ⌜ r ≡ L.readsUndriven word ⌝ }
+{
+    if from_scratch(word) {
+        return false;
+    }
+    !reads_driven(unpack(word))
+}
+
 fn shows_source(fields: Fields) -> bool
     ensures { λ r. ⌜ r ≡ L.showsSource fields ⌝ }
 {
@@ -103,22 +114,28 @@ fn shows_source(fields: Fields) -> bool
     within(shown, driven) & within(driven, shown)
 }
 
-// The refusal of a recipe word, 3, 5 or 6, or 0. 5 and 6 do not concern scratch.
+// Whether a recipe's outputs are not exactly its source function's ports: refusal 6.
+pub fn shows_other(word: u32) -> bool
+    ensures { λ r. ⌜ r ≡ L.showsOther word ⌝ }
+{
+    if from_scratch(word) {
+        return false;
+    }
+    !shows_source(unpack(word))
+}
+
+// The refusal of a recipe word, 3, 5 or 6, or none.
 pub fn recipe_fault(word: u32) -> u32
     ensures { λ r. ⌜ r ≡ L.recipeFault word ⌝ }
 {
     if !laid_out(word) {
         return 3;
     }
-    if target_of(word) == 0 {
-        return 0;
-    }
-    let fields = unpack(word);
-    if !reads_driven(fields) {
+    if reads_undriven(word) {
         return 5;
     }
-    if !shows_source(fields) {
+    if shows_other(word) {
         return 6;
     }
-    0
+    words::NO_REFUSAL
 }

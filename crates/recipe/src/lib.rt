@@ -1,9 +1,16 @@
 // Recipe words: document 01, "Words". Shifts and masks take a word apart and build it; refusals 3, 5 and 6 of its fields.
 mod layout;
 
+pub use layout::laid_out;
+pub use layout::reads_undriven;
 pub use layout::recipe_fault;
+pub use layout::shows_other;
 ghost use mathlib.Core.Path.{_≡_};
+ghost use Rattle.recipe.specs.Asked as Q;
 ghost use Rattle.recipe.specs.Fields as F;
+
+// The target of a recipe from scratch.
+pub const SCRATCH: u32 = 0;
 
 // The fields of a recipe word. `blank` is bit 4, which the layout wants zero.
 pub struct Fields {
@@ -31,6 +38,13 @@ pub fn target_of(word: u32) -> u32
     (word >> 18) & 31
 }
 
+// Whether a recipe is from scratch.
+pub fn from_scratch(word: u32) -> bool
+    ensures { λ r. ⌜ r ≡ F.fromScratch word ⌝ }
+{
+    target_of(word) == SCRATCH
+}
+
 pub fn vector_of(word: u32) -> u32
     ensures { λ r. ⌜ r ≡ F.vectorOf word ⌝ }
 {
@@ -55,8 +69,8 @@ pub fn unpack(word: u32) -> Fields
 }
 
 pub fn pack(kind: u32, fields: Fields) -> u32
-    requires { ⌜ F.Fit kind fields ⌝ }
-    ensures { λ r. ⌜ r ≡ F.wordOf kind fields ⌝ }
+    requires { ⌜ Q.Fit kind fields ⌝ }
+    ensures { λ r. ⌜ r ≡ F.packed kind fields ⌝ }
 {
     (kind << 28)
         | (fields.source << 23)

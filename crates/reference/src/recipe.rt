@@ -5,7 +5,6 @@ use crate::first_out_of_range;
 use crate::places::bit;
 use crate::places::number;
 use crate::places::with_bit;
-ghost use Prim.Native.Nat.{_≤_};
 
 pub struct Fields {
     pub kind: u32,
@@ -53,9 +52,7 @@ fn minterm(vector: u32, x: bool, y: bool) -> bool {
     at % 2 == 1
 }
 
-fn at_each_place(vector: u32, n: u32, left: u64, right: u64) -> u64
-    requires { ⌜ n ≤ 64 ⌝ }
-{
+fn at_each_place(vector: u32, n: u32, left: u64, right: u64) -> u64 {
     let mut word = 0;
     let mut place = 0;
     while place < n {
@@ -81,134 +78,106 @@ fn wire(code: u32) -> u32 {
     }
 }
 
-fn carried(code: u32, carry: bool) -> bool {
-    match code {
-        0 => false,
-        1 => true,
-        // SICIN, NOT SICIN
-        2 => carry,
-        _ => !carry,
-    }
-}
-
-// TO0 as the comparison codes read it: its top bit S, and all its bits joined by OR and by AND.
-struct Flags {
-    s: bool,
-    gor: bool,
-    gand: bool,
-}
-
-fn flags_of(n: u32, word: u64) -> Flags
-    requires { ⌜ n ≤ 64 ⌝ }
-{
+// A comparison code reads of TO0 the top bit S and all bits joined by OR and by AND.
+fn compared(code: u32, n: u32, to0: u64, ovf: bool, to1: bool) -> bool {
     let mut s = false;
     let mut gor = false;
     let mut gand = true;
     let mut place = 0;
     while place < n {
-        s = bit(word, place);
+        s = bit(to0, place);
         gor = gor | s;
         gand = gand & s;
         place += 1;
     }
-    Flags { s, gor, gand }
-}
-
-fn compared(code: u32, to0: Flags, ovf: bool, to1: bool) -> bool {
     match code {
         0 => false,
         // TO1, NOT TO1
         1 => to1,
         2 => !to1,
         // GOR, GNOR, GAND, GNAND
-        3 => to0.gor,
-        4 => !to0.gor,
-        5 => to0.gand,
-        6 => !to0.gand,
+        3 => gor,
+        4 => !gor,
+        5 => gand,
+        6 => !gand,
         // S, NOT S
-        7 => to0.s,
-        8 => !to0.s,
+        7 => s,
+        8 => !s,
         // S OR GNOR, NOT S AND GOR, NOT S AND GNOR
-        9 => to0.s | !to0.gor,
-        10 => !to0.s & to0.gor,
-        11 => !to0.s & !to0.gor,
+        9 => s | !gor,
+        10 => !s & gor,
+        11 => !s & !gor,
         // S XOR TOVF, and its NOT
-        12 => to0.s ^ ovf,
-        13 => !(to0.s ^ ovf),
+        12 => s ^ ovf,
+        13 => !(s ^ ovf),
         // code 12 OR GNOR, and its NOT
-        14 => (to0.s ^ ovf) | !to0.gor,
-        _ => !((to0.s ^ ovf) | !to0.gor),
-    }
-}
-
-fn main_output(code: u32, n: u32, to0: u64) -> u64
-    requires { ⌜ n ≤ 64 ⌝ }
-{
-    match code {
-        0 => 0,
-        1 => to0,
-        // NOT TO0, by the gate of NOT SI0
-        _ => at_each_place(wire(3), n, to0, 0),
-    }
-}
-
-fn carry_output(code: u32, tocout: bool) -> bool {
-    match code {
-        0 => false,
-        1 => tocout,
-        _ => !tocout,
+        14 => (s ^ ovf) | !gor,
+        _ => !((s ^ ovf) | !gor),
     }
 }
 
 // What a target shows through the outputs of a recipe.
-fn outputs(fields: Fields, n: u32, target: Shown) -> Shown
-    requires { ⌜ n ≤ 64 ⌝ }
-{
+fn outputs(fields: Fields, n: u32, target: Shown) -> Shown {
     let tovf = target.ovf == 1;
+    let main = fields.main;
+    let o0 = match main {
+        0 => 0,
+        1 => target.o0,
+        // NOT TO0, by the gate of NOT SI0
+        _ => at_each_place(wire(3), n, target.o0, 0),
+    };
+    let cout = fields.cout;
+    let ocout = match cout {
+        0 => false,
+        1 => target.ocout == 1,
+        _ => target.ocout != 1,
+    };
     Shown {
-        o0: main_output(fields.main, n, target.o0),
-        ocout: number(carry_output(fields.cout, target.ocout == 1)),
+        o0,
+        ocout: number(ocout),
         ovf: number((fields.ovf == 1) & tovf),
-        o1: number(compared(fields.code, flags_of(n, target.o0), tovf, target.o1 == 1)),
+        o1: number(compared(fields.code, n, target.o0, tovf, target.o1 == 1)),
     }
-}
-
-fn fields_show(fields: Fields, n: u32, left: u64, right: u64, carry: bool) -> Shown
-    requires { ⌜ n ≤ 64 ⌝ }
-{
-    if fields.target == 0 {
-        return Shown {
-            o0: at_each_place(fields.code, n, left, right),
-            ocout: 0,
-            ovf: 0,
-            o1: 0,
-        };
-    }
-    let target = evaluate(
-        fields.target,
-        n,
-        at_each_place(wire(fields.left), n, left, right),
-        at_each_place(wire(fields.right), n, left, right),
-        number(carried(fields.carry, carry)),
-    );
-    outputs(fields, n, target)
 }
 
 // The four ports; zeros where a value is out of range.
 pub fn recipe_shows(word: u32, width: u32, left: u64, right: u64, carry: u32) -> Shown {
+    let fields = fields_of(word);
     if first_out_of_range(1, width, left, right, carry) < 5 {
+        return evaluate(0, width, left, right, carry);
+    }
+    if fields.target == 0 {
         return Shown {
-            o0: 0,
+            o0: at_each_place(fields.code, width, left, right),
             ocout: 0,
             ovf: 0,
             o1: 0,
         };
     }
-    fields_show(fields_of(word), width, left, right, carry == 1)
+    let code = fields.carry;
+    let into = match code {
+        0 => false,
+        1 => true,
+        // SICIN, NOT SICIN
+        2 => carry == 1,
+        _ => carry == 0,
+    };
+    let target = evaluate(
+        fields.target,
+        width,
+        at_each_place(wire(fields.left), width, left, right),
+        at_each_place(wire(fields.right), width, left, right),
+        number(into),
+    );
+    outputs(fields, width, target)
 }
 
 // The lowest port at which a recipe does not show what its source function does: 0 O0, 1 OCOUT, 2 OVF, 3 O1, or 4 where there is none.
+// Of operands out of range nothing is shown, so that they would bear out anything: 5.
 pub fn first_difference(word: u32, width: u32, left: u64, right: u64, carry: u32) -> u32 {
+    if first_out_of_range(1, width, left, right, carry) < 5 {
+        return 5;
+    }
     let recipe = recipe_shows(word, width, left, right, carry);
     let source = evaluate(fields_of(word).source, width, left, right, carry);
     if recipe.o0 != source.o0 {

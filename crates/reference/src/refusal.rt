@@ -1,12 +1,10 @@
 // The refusals of a recipe word and a width, each judged from the fields' numbers. A set of ports is a number: 1 for O0, 2 for OCOUT, 4
 // for OVF and 8 for O1, added up.
+use crate::answer::Answer;
+use crate::answer::OF_WORD;
+use crate::answer::answered;
 use crate::recipe::Fields;
 use crate::recipe::fields_of;
-
-pub struct Refusal {
-    pub number: u32,
-    pub place: u32,
-}
 
 // The ports that a function drives.
 fn driven(function: u32) -> u32 {
@@ -32,24 +30,12 @@ fn port_if_used(code: u32, port: u32) -> u32 {
     if code == 0 { 0 } else { port }
 }
 
-// The main output, carry out and overflow that a recipe shows, and reads from its target under the same names.
-fn plain_outputs(fields: Fields) -> u32 {
-    port_if_used(fields.main, 1) | port_if_used(fields.cout, 2) | port_if_used(fields.ovf, 4)
-}
-
-// Refusal 3 of a recipe from scratch: what stands in bits 17 to 4 is not zero, or the source is no logic function.
-fn scratch_misfits(word: u32, source: u32) -> bool {
-    if word / 16 % 16384 != 0 {
-        return true;
+// Refusal 3 of a recipe from scratch: what stands in bits 17 to 4 is not zero, or the source is no logic function. Then of one with a
+// target.
+fn misfits(word: u32, fields: Fields) -> bool {
+    if fields.target == 0 {
+        return (word / 16 % 16384 != 0) | (fields.source < 6) | (fields.source > 21);
     }
-    match source {
-        6..=21 => false,
-        _ => true,
-    }
-}
-
-// Refusal 3 of a recipe with a target.
-fn target_misfits(fields: Fields) -> bool {
     (fields.source == 0)
         | (fields.source > 27)
         | (fields.target > 27)
@@ -61,23 +47,22 @@ fn target_misfits(fields: Fields) -> bool {
 }
 
 // 2, 3, 5 or 6 of a recipe word, or 0.
-fn word_refusal(word: u32) -> u32 {
+pub fn recipe_fault(word: u32) -> u32 {
     let fields = fields_of(word);
     if (fields.kind != 5) & (fields.kind != 6) {
         return 2;
     }
-    if fields.target == 0 {
-        return if scratch_misfits(word, fields.source) {
-            3
-        } else {
-            0
-        };
-    }
-    if target_misfits(fields) {
+    if misfits(word, fields) {
         return 3;
     }
+    if fields.target == 0 {
+        return 0;
+    }
+    // The main output, carry out and overflow that the recipe shows, and reads from its target under the same names.
+    let plain = port_if_used(fields.main, 1)
+        | port_if_used(fields.cout, 2)
+        | port_if_used(fields.ovf, 4);
     let from = driven(fields.target);
-    let plain = plain_outputs(fields);
     if plain | compares(fields.code) | from != from {
         return 5;
     }
@@ -88,19 +73,13 @@ fn word_refusal(word: u32) -> u32 {
 }
 
 // What a judge of a recipe word and a width refuses: the word, place 0, then the width, place 1. The number is 0 where it refuses nothing.
-pub fn refusal_of(word: u32, width: u32) -> Refusal {
-    let number = word_refusal(word);
+pub fn refusal_of(word: u32, width: u32) -> Answer {
+    let number = recipe_fault(word);
     if number != 0 {
-        return Refusal { number, place: 0 };
+        return answered(OF_WORD, number, 0);
     }
     if (width == 0) | (width > 64) {
-        return Refusal {
-            number: 3,
-            place: 1,
-        };
+        return answered(OF_WORD, 3, 1);
     }
-    Refusal {
-        number: 0,
-        place: 0,
-    }
+    answered(OF_WORD, 0, 0)
 }

@@ -1,43 +1,33 @@
--- The parts of a job and of a mapping, and what stands in a table of source or target words.
-use Prim.Native.Nat.{ℕ, _+_}
-use mathlib.Core.Bool.{Bool, true, false}
+-- What stands in a job's tables of source and target words, and what a rule or a binding claims under them.
+use Prim.Native.Nat.{ℕ}
+use mathlib.Core.Bool.{Bool, true, false, not}
 use mathlib.Core.List.{List, [], _∷_}
 use lib.Dec.{eqb}
-use lib.ListN.{take, drop}
 use Rattle.words.specs.Choice.{if_then_else_}
-use Rattle.words.specs.Field.{contentOf}
-use Rattle.recipe.specs.Fields.{sourceOf, targetOf}
-use Rattle.reader.specs.Job.{sourcesStart, targetsStart, rulesStart}
-use Rattle.reader.specs.Mapping.{bindingsStart}
-use Rattle.reader.specs.declared.Job.{Job}
-use Rattle.reader.specs.declared.Mapping.{Mapping}
+use Rattle.words.specs.Field.{sourceFunction, targetFunction}
+use Rattle.recipe.specs.Fields.{sourceOf, targetOf, fromScratch}
+use Rattle.binding.specs.Right.{claimOf}
+use Rattle.binding.specs.declared.Claim.{Claim}
 
--- ---- "A job: header, prices, 1 to 27 sources, 0 to 27 targets, 0 to 512 rules. A mapping: header, 0 to 27 bindings, glue count."
+-- a function is among the sources
+unfoldable pub listsSource : List ℕ → ℕ → Bool
+listsSource [] f = false
+listsSource (s ∷ sources) f = if eqb (sourceFunction s) f then true else listsSource sources f
 
-abbrev pub sourcesOf : List ℕ → Job → List ℕ
-sourcesOf ws job = take (job .sources) (drop sourcesStart ws)
+-- a function is among the targets
+unfoldable pub listsTarget : List ℕ → ℕ → Bool
+listsTarget [] f = false
+listsTarget (t ∷ targets) f = if eqb (targetFunction t) f then true else listsTarget targets f
 
-abbrev pub targetsOf : List ℕ → Job → List ℕ
-targetsOf ws job = take (job .targets) (drop (targetsStart job) ws)
-
--- "The rules, a part of the job that begins after its tables"
-abbrev pub rulesOf : List ℕ → Job → List ℕ
-rulesOf ws job = drop (rulesStart job) ws
-
-abbrev pub bindingsOf : List ℕ → Mapping → List ℕ
-bindingsOf ws mapping = take (mapping .bindings) (drop bindingsStart ws)
-
--- ---- "source, target function: bits 4..0 number"
-
--- the function of a source or target word, by which refusals 9, 10, 12, 21 and 22 name it
-abbrev pub entryPlace : ℕ → ℕ
-entryPlace w = contentOf w
-
--- a table has the function
-unfoldable pub lists : List ℕ → ℕ → Bool
-lists [] f = false
-lists (w ∷ ws) f = if eqb (entryPlace w) f then true else lists ws f
-
--- "target 0 or in the job"
+-- "its target is 0 or in the job"
 unfoldable pub hasTarget : List ℕ → ℕ → Bool
-hasTarget targets w = if eqb (targetOf w) 0 then true else lists targets (targetOf w)
+hasTarget targets w = if fromScratch w then true else listsTarget targets (targetOf w)
+
+-- not "8. Source or target function not in the job"
+unfoldable pub inJob : List ℕ → List ℕ → ℕ → Bool
+inJob sources targets w = if not (listsSource sources (sourceOf w)) then false else hasTarget targets w
+
+-- The side and the recipe that are compared to judge a rule or a binding of a job with these source and target words. Such a word
+-- holds a function and nothing else, so neither table has a say in it.
+abbrev pub claimIn : List ℕ → List ℕ → ℕ → Claim
+claimIn sources targets w = claimOf w

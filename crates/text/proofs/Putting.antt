@@ -9,28 +9,28 @@ use lib.Seq.{sets, set-comm}
 use borrow.Author.Tests.{lt-ltb, le-ltb, eq-eqb, ne-eqb}
 use Rattle.words.proofs.Copies.{sets-append}
 use Rattle.words.proofs.Lists.{drop-next}
-use Rattle.text.specs.Text.{Puts, names, trimmed, nameOf, glyph, digits, placesIn}
+use Rattle.text.specs.Text.{Puts, names, trimmed, nameOf, glyph, digits, digitsIn}
 
 -- ---- how many digits
 
-module _ (n i rest whole : ℕ) (e : i + placesIn (20 - i) rest ≡ whole) (h : i < 20) where
+module _ (n i rest whole : ℕ) (e : i + digitsIn (20 - i) rest ≡ whole) (h : i < 20) where
   one-of : (k : ℕ) → 20 - i ≡ suc k → rest < 10 → i + 1 ≡ whole
-  unfolding placesIn
+  unfolding digitsIn
   one-of k p l = rw (p, lt-ltb rest 10 l) at e
 
-  more-of : (k : ℕ) → 20 - i ≡ suc k → 10 ≤ rest → i + 1 + placesIn k (rest / 10) ≡ whole
-  unfolding placesIn
+  more-of : (k : ℕ) → 20 - i ≡ suc k → 10 ≤ rest → i + 1 + digitsIn k (rest / 10) ≡ whole
+  unfolding digitsIn
   more-of k p l = let q = rw (p, le-ltb rest 10 l) at e in omega arith
 
-  pub last-place : rest < 10 → i + 1 ≡ whole
-  last-place l = one-of (20 - (i + 1)) (omega arith) l
+  pub count-ends : rest < 10 → i + 1 ≡ whole
+  count-ends l = one-of (20 - (i + 1)) (omega arith) l
 
-  pub next-place : 10 ≤ rest → i + 1 + placesIn (20 - (i + 1)) (rest / 10) ≡ whole
-  next-place l = more-of (20 - (i + 1)) (omega arith) l
+  pub count-goes-on : 10 ≤ rest → i + 1 + digitsIn (20 - (i + 1)) (rest / 10) ≡ whole
+  count-goes-on l = more-of (20 - (i + 1)) (omega arith) l
 
-pub no-place-left : (i rest whole : ℕ) → i + placesIn (20 - i) rest ≡ whole → 20 ≤ i → i ≡ whole
-unfolding placesIn
-no-place-left i rest whole e h =
+pub count-full : (i rest whole : ℕ) → i + digitsIn (20 - i) rest ≡ whole → 20 ≤ i → i ≡ whole
+unfolding digitsIn
+count-full i rest whole e h =
     let p : 20 - i ≡ 0 = omega arith in let q = rw p at e in omega arith
 
 -- ---- digits

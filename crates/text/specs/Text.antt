@@ -10,13 +10,17 @@ use lib.Dec.{ltb, eqb}
 use lib.ListN.{length, take, drop}
 use lib.Seq.{sets}
 use Rattle.words.specs.Choice.{if_then_else_}
+use Rattle.words.specs.Paper.{refusal}
+use Rattle.words.specs.declared.Refusal.{Refusal}
+use Rattle.words.specs.declared.Witness.{Witness}
+use Rattle.alu.specs.Bits.{num}
 use Rattle.recipe.specs.Fields.{sourceOf, targetOf}
 
 abbrev pub bytes : String → List ℕ
 bytes no-text = []
 bytes (c then s) = code c ∷ bytes s
 
--- a text put into lent bytes at a place, and the place after it
+-- a text put into lent bytes at a position, and the position after it
 pub record Puts (out : List ℕ) (at : ℕ) (text : List ℕ) (after : List ℕ) (end : ℕ) : Type 0 where
   pub ends : end ≡ at + length text
   pub put : after ≡ sets out at text
@@ -48,19 +52,23 @@ digits base zero n = []
 digits base (suc k) n = digits base k (n / base) ++ (glyph (n % base) ∷ [])
 
 -- how many decimal digits a number has, at most k
-unfoldable pub placesIn : ℕ → ℕ → ℕ
-placesIn zero n = 0
-placesIn (suc k) n = if ltb n 10 then 1 else placesIn k (n / 10) + 1
+unfoldable pub digitsIn : ℕ → ℕ → ℕ
+digitsIn zero n = 0
+digitsIn (suc k) n = if ltb n 10 then 1 else digitsIn k (n / 10) + 1
 
 -- a number below 2^64 in decimal
 unfoldable pub decimal : ℕ → List ℕ
-decimal n = digits 10 (placesIn 20 n) n
+decimal n = digits 10 (digitsIn 20 n) n
 
 -- a word in eight capital hexadecimal digits
 unfoldable pub hexadecimal : ℕ → List ℕ
 hexadecimal w = digits 16 8 w
 
 -- ---- lines
+
+-- no line has more bytes
+abbrev pub mostLineBytes : ℕ
+mostLineBytes = 160
 
 -- a number after what it is
 unfoldable pub labelled : List ℕ → ℕ → List ℕ
@@ -74,11 +82,11 @@ unfoldable pub glueLine : ℕ → List ℕ
 glueLine count = labelled (bytes "GLUE ") count ++ bytes "\n"
 
 -- "REFUSED, number and place in decimal"
-unfoldable pub refusal : ℕ → ℕ → List ℕ
-refusal number place = labelled (bytes "REFUSED ") number ++ labelled (bytes " ") place
+unfoldable pub refusalText : Refusal → List ℕ
+refusalText r = labelled (bytes "REFUSED ") (r .number) ++ labelled (bytes " ") (r .place)
 
-unfoldable pub refusedLine : ℕ → ℕ → List ℕ
-refusedLine number place = refusal number place ++ bytes "\n"
+unfoldable pub refusedLine : Refusal → List ℕ
+refusedLine r = refusalText r ++ bytes "\n"
 
 -- ---- the checker's lines: a refusal 1 to 6 says which file is meant, and 10 the port, the operands and the carry
 
@@ -86,14 +94,15 @@ abbrev pub fileName : Bool → List ℕ
 fileName true = bytes " MAPPING\n"
 fileName false = bytes " JOB\n"
 
-unfoldable pub refusedFileLine : ℕ → ℕ → Bool → List ℕ
-refusedFileLine number place mapping = refusal number place ++ fileName mapping
+unfoldable pub refusedFileLine : Refusal → Bool → List ℕ
+refusedFileLine r mapping = refusalText r ++ fileName mapping
 
-unfoldable pub wrongLine : ℕ → ℕ → ℕ → ℕ → ℕ → List ℕ
-wrongLine function port left right carry =
-    refusal 10 function
-    ++ labelled (bytes " PORT ") port
-    ++ labelled (bytes " LEFT ") left
-    ++ labelled (bytes " RIGHT ") right
-    ++ labelled (bytes " CARRY ") carry
-    ++ bytes "\n"
+unfoldable pub witnessText : Witness → List ℕ
+witnessText v =
+    labelled (bytes " PORT ") (v .port)
+    ++ labelled (bytes " LEFT ") (v .left)
+    ++ labelled (bytes " RIGHT ") (v .right)
+    ++ labelled (bytes " CARRY ") (num (v .carry))
+
+unfoldable pub wrongLine : Witness → List ℕ
+wrongLine v = refusalText (refusal 10 (v .function)) ++ witnessText v ++ bytes "\n"

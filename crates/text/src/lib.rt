@@ -3,14 +3,18 @@ pub mod hex;
 mod puts;
 
 pub use puts::put;
-ghost use Prim.Native.Nat.{_≤_};
+use words::Refusal;
+use words::Witness;
+ghost use Prim.Native.Nat.{_+_, _≤_};
 ghost use lib.ListN.{length};
-ghost use Rattle.alu.specs.Bits.{num};
 ghost use Rattle.text.specs.Text as T;
+
+// The most bytes of a line.
+pub const MOST_LINE_BYTES: usize = 160;
 
 // A binding: its source, its target or LV, and its word.
 pub fn binding_line(word: u32, out: &mut [u8]) -> usize
-    requires { ⌜ 160 ≤ length (now out) ⌝ }
+    requires { ⌜ T.mostLineBytes ≤ length (now out) ⌝ }
     ensures text { λ r. ⌜ T.Puts (now (out .entry)) 0 (T.bindingLine word) (now (out .exit)) r ⌝ }
 {
     let source = puts::put_name(recipe::source_of(word), out, 0);
@@ -23,7 +27,7 @@ pub fn binding_line(word: u32, out: &mut [u8]) -> usize
 
 // The glue count.
 pub fn glue_line(count: u32, out: &mut [u8]) -> usize
-    requires { ⌜ 160 ≤ length (now out) ⌝ }
+    requires { ⌜ T.mostLineBytes ≤ length (now out) ⌝ }
     ensures text { λ r. ⌜ T.Puts (now (out .entry)) 0 (T.glueLine count) (now (out .exit)) r ⌝ }
 {
     let end = puts::put_labelled(b"GLUE ", count as u64, out, 0);
@@ -31,52 +35,58 @@ pub fn glue_line(count: u32, out: &mut [u8]) -> usize
 }
 
 // A refusal's number and place.
-fn put_refusal(number: u32, place: usize, out: &mut [u8]) -> usize
-    requires { ⌜ 160 ≤ length (now out) ⌝ }
+fn put_refusal(refusal: Refusal, out: &mut [u8]) -> usize
+    requires { ⌜ T.mostLineBytes ≤ length (now out) ⌝ }
     ensures short { λ r. ⌜ r ≤ 49 ⌝ }
-    ensures text { λ r. ⌜ T.Puts (now (out .entry)) 0 (T.refusal number place) (now (out .exit)) r ⌝ }
+    ensures text { λ r. ⌜ T.Puts (now (out .entry)) 0 (T.refusalText refusal) (now (out .exit)) r ⌝ }
 {
-    let end = puts::put_labelled(b"REFUSED ", number as u64, out, 0);
-    puts::put_labelled(b" ", place as u64, out, end)
+    let end = puts::put_labelled(b"REFUSED ", refusal.number as u64, out, 0);
+    puts::put_labelled(b" ", refusal.place as u64, out, end)
 }
 
 // A refusal.
-pub fn refused_line(number: u32, place: usize, out: &mut [u8]) -> usize
-    requires { ⌜ 160 ≤ length (now out) ⌝ }
-    ensures text { λ r. ⌜ T.Puts (now (out .entry)) 0 (T.refusedLine number place) (now (out .exit)) r ⌝ }
+pub fn refused_line(refusal: Refusal, out: &mut [u8]) -> usize
+    requires { ⌜ T.mostLineBytes ≤ length (now out) ⌝ }
+    ensures text { λ r. ⌜ T.Puts (now (out .entry)) 0 (T.refusedLine refusal) (now (out .exit)) r ⌝ }
 {
-    let end = put_refusal(number, place, out);
+    let end = put_refusal(refusal, out);
     puts::put(b"\n", out, end)
 }
 
 // A refusal of the job or of the mapping.
-pub fn refused_file_line(number: u32, place: usize, mapping: bool, out: &mut [u8]) -> usize
-    requires { ⌜ 160 ≤ length (now out) ⌝ }
-    ensures text { λ r. ⌜ T.Puts (now (out .entry)) 0 (T.refusedFileLine number place mapping) (now (out .exit)) r ⌝ }
+pub fn refused_file_line(refusal: Refusal, mapping: bool, out: &mut [u8]) -> usize
+    requires { ⌜ T.mostLineBytes ≤ length (now out) ⌝ }
+    ensures text { λ r. ⌜ T.Puts (now (out .entry)) 0 (T.refusedFileLine refusal mapping) (now (out .exit)) r ⌝ }
 {
-    let end = put_refusal(number, place, out);
+    let end = put_refusal(refusal, out);
     if mapping {
         return puts::put(b" MAPPING\n", out, end);
     }
     puts::put(b" JOB\n", out, end)
 }
 
-// A wrong recipe: where it differs from its source function.
-pub fn wrong_line(
-    function: u32,
-    port: u32,
-    left: u64,
-    right: u64,
-    carry: bool,
-    out: &mut [u8],
-) -> usize
-    requires { ⌜ 160 ≤ length (now out) ⌝ }
-    ensures text { λ r. ⌜ T.Puts (now (out .entry)) 0 (T.wrongLine function port left right (num carry)) (now (out .exit)) r ⌝ }
+// The port, the operands and the carry at which a recipe differs from its source function.
+fn put_witness(witness: Witness, out: &mut [u8], at: usize) -> usize
+    requires { ⌜ at + 106 ≤ length (now out) ⌝ }
+    ensures short { λ r. ⌜ r ≤ at + 106 ⌝ }
+    ensures text { λ r. ⌜ T.Puts (now (out .entry)) at (T.witnessText witness) (now (out .exit)) r ⌝ }
 {
-    let refusal = put_refusal(10, function as usize, out);
-    let port = puts::put_labelled(b" PORT ", port as u64, out, refusal);
-    let left = puts::put_labelled(b" LEFT ", left, out, port);
-    let right = puts::put_labelled(b" RIGHT ", right, out, left);
-    let carry = puts::put_labelled(b" CARRY ", carry as u64, out, right);
-    puts::put(b"\n", out, carry)
+    let port = puts::put_labelled(b" PORT ", witness.port as u64, out, at);
+    let left = puts::put_labelled(b" LEFT ", witness.left, out, port);
+    let right = puts::put_labelled(b" RIGHT ", witness.right, out, left);
+    puts::put_labelled(b" CARRY ", witness.carry as u64, out, right)
+}
+
+// A wrong recipe: where it differs from its source function.
+pub fn wrong_line(witness: Witness, out: &mut [u8]) -> usize
+    requires { ⌜ T.mostLineBytes ≤ length (now out) ⌝ }
+    ensures text { λ r. ⌜ T.Puts (now (out .entry)) 0 (T.wrongLine witness) (now (out .exit)) r ⌝ }
+{
+    let refusal = Refusal {
+        number: 10,
+        place: witness.function as usize,
+    };
+    let end = put_refusal(refusal, out);
+    let values = put_witness(witness, out, end);
+    puts::put(b"\n", out, values)
 }

@@ -1,10 +1,10 @@
-// Bytes, names and numbers put into lent bytes, from a place on.
+// Bytes, names and numbers put into lent bytes, from a position on.
 ghost use mathlib.Core.Path.{_≡_};
 ghost use Prim.Native.Nat.{_+_, _≤_};
 ghost use lib.ListN.{length};
 ghost use Rattle.text.specs.Text as T;
 
-// Puts bytes, and answers the place after them.
+// Puts bytes, and answers the position after them.
 pub fn put(bytes: &[u8], out: &mut [u8], at: usize) -> usize
     requires { ⌜ at + length (now bytes) ≤ length (now out) ⌝ }
     ensures text { λ r. ⌜ T.Puts (now (out .entry)) at (now (bytes .entry)) (now (out .exit)) r ⌝ }
@@ -38,13 +38,13 @@ fn put_trimmed(bytes: &[u8], out: &mut [u8], at: usize) -> usize
 const NAMES: [u8; 140] =
     *b"LV   ADD  SUB  RSUB INC  DEC  ZERO ONE  AND  NAND OR   NOR  XOR  XNOR LID  RID  LNOT RNOT LINHIRINHILIMPLRIMPLEQ   NEQ  GT   LT   GEQ  LEQ  ";
 
-// Puts the name of a function; there is none for a number above 27.
+// Puts the name of a function; there is none for a number above the last.
 pub fn put_name(function: u32, out: &mut [u8], at: usize) -> usize
     requires { ⌜ at + 5 ≤ length (now out) ⌝ }
     ensures short { λ r. ⌜ r ≤ at + 5 ⌝ }
     ensures text { λ r. ⌜ T.Puts (now (out .entry)) at (T.nameOf function) (now (out .exit)) r ⌝ }
 {
-    if 27 < function {
+    if alu::FUNCTIONS < function {
         return at;
     }
     let start = 5 * (function as usize);
@@ -78,8 +78,8 @@ pub fn put_digits(n: u64, base: u64, k: usize, out: &mut [u8], at: usize) -> usi
 }
 
 // How many decimal digits a number has.
-fn places(n: u64) -> usize
-    ensures { λ r. ⌜ (r ≡ T.placesIn 20 n) × (r ≤ 20) ⌝ }
+fn digit_count(n: u64) -> usize
+    ensures { λ r. ⌜ (r ≡ T.digitsIn 20 n) × (r ≤ 20) ⌝ }
 {
     let mut rest = n;
     let mut i = 0;
@@ -99,7 +99,7 @@ pub fn put_decimal(n: u64, out: &mut [u8], at: usize) -> usize
     ensures short { λ r. ⌜ r ≤ at + 20 ⌝ }
     ensures text { λ r. ⌜ T.Puts (now (out .entry)) at (T.decimal n) (now (out .exit)) r ⌝ }
 {
-    put_digits(n, 10, places(n), out, at)
+    put_digits(n, 10, digit_count(n), out, at)
 }
 
 // Puts a label, and a number in decimal after it.

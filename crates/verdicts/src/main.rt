@@ -4,11 +4,8 @@
 // what safety needs.
 mod cases;
 mod nine;
-mod numbers;
-mod operands;
 mod pairings;
 mod refusals;
-mod say;
 mod stored;
 mod trial;
 

@@ -1,12 +1,10 @@
 // Recipes judged at nine widths: the small ones that can be tried whole, and those about the halves and the ends of machine words.
-use crate::numbers::more;
-use crate::numbers::plus;
-use crate::numbers::wide;
-use crate::say;
-use crate::trial::Tally;
 use crate::trial::counted;
-use crate::trial::empty;
 use crate::trial::tried;
+use reference::Tally;
+use reference::more;
+use reference::say;
+use std::num::wrapping_add_u64;
 
 pub const WIDTHS: [u32; 9] = [1, 2, 3, 4, 8, 31, 32, 63, 64];
 
@@ -24,7 +22,7 @@ pub fn none() -> Recipes {
     let right = [0; 9];
     Recipes {
         recipes: 0,
-        tally: empty(),
+        tally: reference::none(),
         right,
         always: 0,
         narrow: 0,
@@ -77,20 +75,24 @@ pub fn together(all: Recipes, others: Recipes) -> Recipes {
     let added = others.right;
     let mut k = 0;
     while k < 9 {
-        right[k] = plus(right[k], added[k]);
+        right[k] = wrapping_add_u64(right[k], added[k]);
         k += 1;
     }
     Recipes {
-        recipes: plus(all.recipes, others.recipes),
+        recipes: wrapping_add_u64(all.recipes, others.recipes),
         tally: Tally {
-            compared: plus(tally.compared, other.compared),
-            differ: plus(tally.differ, other.differ),
+            compared: wrapping_add_u64(tally.compared, other.compared),
+            differ: wrapping_add_u64(tally.differ, other.differ),
         },
         right,
-        always: plus(all.always, others.always),
-        narrow: plus(all.narrow, others.narrow),
-        never: plus(all.never, others.never),
+        always: wrapping_add_u64(all.always, others.always),
+        narrow: wrapping_add_u64(all.narrow, others.narrow),
+        never: wrapping_add_u64(all.never, others.never),
     }
+}
+
+fn wide(x: u32) -> u64 {
+    x as u64
 }
 
 fn say_widths(right: [u64; 9]) {
@@ -107,9 +109,8 @@ pub fn report(all: Recipes) {
     let tally = all.tally;
     let right = all.right;
     say::count(b": ", all.recipes);
-    say::count(b" recipes at nine widths, ", tally.compared);
-    say::count(b" compared, ", tally.differ);
-    say::count(b" differ; right at all ", all.always);
+    say::compared(b" recipes at nine widths, ", tally);
+    say::count(b"; right at all ", all.always);
     say::count(b", at width 1 only ", all.narrow);
     say::count(b", at none ", all.never);
     say::text(b"; by width");

@@ -1,98 +1,38 @@
 // The refusals of the judge, against those that the reference finds in the same word and width.
-use crate::numbers::more;
-use crate::numbers::next;
-use crate::numbers::upper_half;
-use crate::say;
 use crate::stored::RECIPES;
-use crate::trial::Tally;
 use crate::trial::counted;
-use crate::trial::empty;
-use equivalence::Judgement;
-use reference::Refusal;
+use crate::trial::judged;
+use reference::Answer;
+use reference::DONE;
+use reference::Numbers;
+use reference::more;
+use reference::next;
+use reference::say;
 ghost use Prim.Native.Nat.{_<_};
 
-// The answers compared, and how many there are by what the reference refuses: 0 for nothing, 1 for the width, or the word's number.
-struct Refusals {
-    tally: Tally,
-    by: [u64; 7],
-}
-
-fn nothing_yet() -> Refusals {
-    let by = [0; 7];
-    Refusals { tally: empty(), by }
-}
-
-fn group(number: u32, place: u32) -> usize
-    ensures { λ r. ⌜ r < 7 ⌝ }
-{
-    if place == 1 {
+// By what the reference refuses: 0 for nothing, 1 for the width, or the word's number.
+fn group(refusal: Answer) -> u32 {
+    if refusal.place == 1 {
         return 1;
     }
-    match number {
-        0 => 0,
-        2 => 2,
-        3 => 3,
-        5 => 5,
-        _ => 6,
-    }
+    refusal.number
 }
 
-fn agrees(word: u32, width: u32, refusal: Refusal) -> bool {
-    let judgement = equivalence::judge(word, width);
-    match judgement {
-        Judgement::Decided(_) => refusal.number == 0,
-        Judgement::Refused { number, place } => {
-            (number != 0) & (number == refusal.number) & (place == refusal.place)
-        }
-    }
+// Whether a word taken apart and packed again is the same word.
+fn packs_back(word: u32) -> bool {
+    let kind = words::kind_of(word);
+    let fields = recipe::unpack(word);
+    recipe::pack(kind, fields) == word
 }
 
-fn compare(all: Refusals, word: u32, width: u32) -> Refusals {
-    let refusal = reference::refusal_of(word, width);
-    let tally = all.tally;
-    let mut by = all.by;
-    let i = group(refusal.number, refusal.place);
-    by[i] = more(by[i], true);
-    Refusals {
-        tally: counted(tally, word, width, agrees(word, width, refusal)),
-        by,
+// Whether the judge refuses as the reference does. Of each word that is judged, the packing is tried too.
+fn agrees(word: u32, width: u32, refusal: Answer) -> bool {
+    let packed = packs_back(word);
+    let told = judged(word, width);
+    if told.form == DONE {
+        return packed & (refusal.number == 0);
     }
-}
-
-// Every word of kind 5 at a width. There are many, so the counts stay in the loop's own locals.
-fn every_rule(width: u32) -> Refusals {
-    let mut tally = empty();
-    let mut by = [0; 7];
-    let mut word: u32 = 0x5000_0000;
-    while word < 0x6000_0000 {
-        let refusal = reference::refusal_of(word, width);
-        let next = counted(tally, word, width, agrees(word, width, refusal));
-        tally = next;
-        let i = group(refusal.number, refusal.place);
-        by[i] = more(by[i], true);
-        word += 1;
-    }
-    Refusals { tally, by }
-}
-
-fn at_four_widths(all: Refusals, word: u32) -> Refusals {
-    compare(
-        compare(compare(compare(all, word, 0), word, 1), word, 64),
-        word,
-        65,
-    )
-}
-
-fn random_words() -> Refusals {
-    let mut all = nothing_yet();
-    let mut x = 0x2545_f491_4f6c_dd1d;
-    let mut i: u32 = 0;
-    while i < 100000 {
-        all = at_four_widths(all, upper_half(x));
-        x = next(x);
-        i += 1;
-    }
-    all
+    packed & (told.number != 0) & (told.number == refusal.number) & (told.place == refusal.place)
 }
 
 // A word with a value put into the field of `most` ones from bit `low`, cut to it.
@@ -120,56 +60,98 @@ fn with_one_field(word: u32, i: u32) -> u32 {
     }
 }
 
-// Mostly 0, 1 and 65, which are judged at once, and sometimes 64.
-fn width_in_turn(i: u32) -> u32 {
-    match i % 16 {
+const FOUR: [u32; 4] = [0, 1, 64, 65];
+
+struct Case {
+    word: u32,
+    width: u32,
+}
+
+// The i-th word and width of a lot: every word of kind 5; a random word at four widths; a stored recipe with one field changed, at a width
+// that is mostly 0, 1 or 65, which are judged at once.
+fn case_of(lot: u32, i: u32, random: u64) -> Case {
+    if lot == 0 {
+        return Case {
+            word: 0x5000_0000 | i,
+            width: 65,
+        };
+    }
+    if lot == 1 {
+        let turn = (i % 4) as usize;
+        return Case {
+            word: (random >> 32) as u32,
+            width: FOUR[turn],
+        };
+    }
+    let recipe = (i / 128 % 280) as usize;
+    let field = i % 128;
+    let width = match (field ^ (i / 128)) % 16 {
         0..=4 => 0,
         5..=9 => 1,
         10..=14 => 65,
         _ => 64,
+    };
+    Case {
+        word: with_one_field(RECIPES[recipe], field),
+        width,
     }
 }
 
-fn with_spoilt(all: Refusals, word: u32, turn: u32) -> Refusals {
-    let mut all = all;
+// There are many, so the counts stay in the loop's own locals.
+fn compared(lot: u32, count: u32) -> Numbers {
+    let mut tally = reference::none();
+    let mut by = [0; 12];
+    let mut random = 0x2545_f491_4f6c_dd1d;
     let mut i: u32 = 0;
-    while i < 128 {
-        all = compare(all, with_one_field(word, i), width_in_turn(i ^ turn));
+    while i < count {
+        let case = case_of(lot, i, random);
+        let refusal = reference::refusal_of(case.word, case.width);
+        let after = counted(
+            tally,
+            case.word,
+            case.width,
+            agrees(case.word, case.width, refusal),
+        );
+        tally = after;
+        let place = (group(refusal) % 12) as usize;
+        by[place] = more(by[place], true);
+        if i % 4 == 3 {
+            random = next(random);
+        }
         i += 1;
     }
-    all
+    Numbers { tally, by }
 }
 
-fn spoilt_words() -> Refusals {
-    let mut all = nothing_yet();
-    let mut i = 0;
-    while i < 280 {
-        all = with_spoilt(all, RECIPES[i], i as u32);
-        i += 1;
-    }
-    all
-}
-
-fn report(name: &[u8], all: Refusals) {
-    let tally = all.tally;
-    let by = all.by;
-    say::text(name);
-    say::count(b": ", tally.compared);
-    say::count(b" compared, ", tally.differ);
-    say::count(b" differ; refused 2: ", by[2]);
+fn say_groups(by: [u64; 12]) {
+    say::count(b"; refused 2: ", by[2]);
     say::count(b", 3: ", by[3]);
     say::count(b", 5: ", by[5]);
     say::count(b", 6: ", by[6]);
     say::count(b", 3 for the width: ", by[1]);
     say::count(b", not refused: ", by[0]);
+}
+
+fn report(name: &[u8], all: Numbers) {
+    let tally = all.tally;
+    let by = all.by;
+    say::text(name);
+    say::compared(b": ", tally);
+    say_groups(by);
     say::text(b"\n");
 }
 
 pub fn report_refusals() {
-    report(b"every word of kind 5 at width 65", every_rule(65));
-    report(b"random words at widths 0, 1, 64 and 65", random_words());
+    report(
+        b"every word of kind 5 at width 65",
+        compared(0, 0x1000_0000),
+    );
+    report(
+        b"random words at widths 0, 1, 64 and 65",
+        compared(1, 400000),
+    );
     report(
         b"recipes with one field changed, at one of these widths",
-        spoilt_words(),
+        compared(2, 35840),
     );
 }

@@ -19,6 +19,10 @@ and-split false b e = absurd (false≢true e)
 pub and-join : {a b : Bool} → a ≡ true → b ≡ true → a && b ≡ true
 and-join p q = rw (p, q)
 
+pub or-split : {R : Type 0} (a b : Bool) → a || b ≡ true → (a ≡ true → R) → (b ≡ true → R) → R
+or-split true b e f g = f refl
+or-split false b e f g = g e
+
 pub beq-true : (a b : Bool) → Bool·beq a b ≡ true → a ≡ b
 beq-true true true e = refl
 beq-true true false e = absurd (false≢true e)

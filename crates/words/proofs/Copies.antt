@@ -1,4 +1,4 @@
--- Lists copied into lent ones from a place on: the loop that does it, and one list after another.
+-- Lists copied into lent ones from an index on: the loop that does it, and one list after another.
 use mathlib.Core.Path.{_≡_, refl}
 use mathlib.Core.List.{List, [], _∷_, _++_}
 use Prim.Native.Nat.{ℕ, suc, _+_, _≤_, _<_}

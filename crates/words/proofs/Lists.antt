@@ -1,4 +1,4 @@
--- A list from a place on: what a loop over a slice, and a part of a slice handed on, ask for.
+-- A list from an index on: what a loop over a slice, and a part of a slice handed on, ask for.
 use mathlib.Core.Path.{_≡_, refl}
 use mathlib.Core.List.{List, [], _∷_}
 use Prim.Native.Nat.{ℕ, zero, suc, _+_, _-_, _<_}
@@ -7,7 +7,7 @@ use native.Mathlib.Omega.{arith}
 use lib.ListN.{length, take, drop, getD, length-drop}
 use lib.Seq.{drop-cons, take-all}
 
--- the code's `i + 1` is the definitions' next place
+-- the code's `i + 1` is the definitions' next index
 pub drop-next : (ws : List ℕ) (i : ℕ) → i < length ws → drop i ws ≡ getD ws i 0 ∷ drop (i + 1) ws
 drop-next ws i h = rw (add-one, drop-cons ws i 0)
 

@@ -12,6 +12,13 @@ kindOf w = field w 28 4
 abbrev pub contentOf : ℕ → ℕ
 contentOf w = field w 0 28
 
+-- "source, target function: bits 4..0 number": the function of a source word, and of a target word
+abbrev pub sourceFunction : ℕ → ℕ
+sourceFunction w = contentOf w
+
+abbrev pub targetFunction : ℕ → ℕ
+targetFunction w = contentOf w
+
 -- the word of a kind and a content
 abbrev pub wordOf : ℕ → ℕ → ℕ
 wordOf kind content = kind * 2 ^ 28 + content

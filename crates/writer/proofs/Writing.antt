@@ -2,7 +2,6 @@
 use mathlib.Core.Path.{_≡_, refl, sym, ap, _∙_}
 use mathlib.Core.List.{List, [], _∷_, _++_}
 use Prim.Native.Nat.{ℕ, zero, suc, _+_, _*_, _^_, _≤_, _<_}
-use native.Mathlib.Numerals.{add-one}
 use native.Mathlib.Nat.{zero-add}
 use native.Mathlib.Omega.{arith}
 use borrow.Author.Tests.{lt-ltb, le-ltb}
@@ -11,9 +10,11 @@ use lib.Seq.{sets, sets-eq, length-sets}
 use Rattle.words.specs.Choice.{if_then_else_}
 use Rattle.words.specs.Field.{wordOf}
 use Rattle.words.proofs.Lists.{drop-next}
-use Rattle.reader.specs.Kinds.{HEADER, GLUE}
+use Rattle.words.specs.Kinds.{HEADER, GLUE}
+use Rattle.words.specs.Paper.{refusal}
+use Rattle.reader.specs.Limits.{bindingsStart}
 use Rattle.writer.specs.Write.{bindingWord, bindingWords, mappingWords, wordsNeeded, writtenOf, lentAfter}
-use Rattle.writer.specs.declared.Written.the-variants.{Words, TooFew}
+use Rattle.writer.specs.declared.Written.the-variants.{Words, Refused}
 
 pub bindings-length : (ws : List ℕ) → length (bindingWords ws) ≡ length ws
 unfolding bindingWords
@@ -32,21 +33,22 @@ mapping-length width glue bound =
 
 -- ---- one binding more, and the last word
 
-module _ (bound : List ℕ) (i : ℕ) (lent rest whole : List ℕ) (e : sets lent (i + 1) (bindingWords (drop i bound) ++ rest) ≡ whole) where
+module _ (bound : List ℕ) (i : ℕ) (lent rest whole : List ℕ) (e : sets lent (bindingsStart + i) (bindingWords (drop i bound) ++ rest) ≡ whole) where
   pub binding-written : (w : ℕ) → i < length bound → w ≡ bindingWord (getD bound i 0)
-      → sets (set lent (i + 1) w) (i + 1 + 1) (bindingWords (drop (i + 1) bound) ++ rest) ≡ whole
+      → sets (set lent (bindingsStart + i) w) (bindingsStart + (i + 1)) (bindingWords (drop (i + 1) bound) ++ rest) ≡ whole
   unfolding bindingWords
-  binding-written w h ew = rw (ew, add-one (i + 1)) (rw (drop-next bound i h) at e)
+  binding-written w h ew =
+      let z : bindingsStart + (i + 1) ≡ suc (bindingsStart + i) = omega arith in rw (ew, z) (rw (drop-next bound i h) at e)
 
-pub glue-written : (bound : List ℕ) (i : ℕ) (lent whole : List ℕ) (g w : ℕ) → sets lent (i + 1) (bindingWords (drop i bound) ++ (g ∷ [])) ≡ whole
-    → length bound ≤ i → w ≡ g → set lent (i + 1) w ≡ whole
+pub glue-written : (bound : List ℕ) (i : ℕ) (lent whole : List ℕ) (g w : ℕ) → sets lent (bindingsStart + i) (bindingWords (drop i bound) ++ (g ∷ [])) ≡ whole
+    → length bound ≤ i → w ≡ g → set lent (bindingsStart + i) w ≡ whole
 unfolding bindingWords
 glue-written bound i lent whole g w e h ew = rw ew (rw (drop-of-length-le bound h) at e)
 
 -- ---- the answer
 
 module _ (width glue needed : ℕ) (bound lent : List ℕ) (en : needed ≡ wordsNeeded (length bound)) where
-  pub too-few : length lent < needed → TooFew needed ≡ writtenOf (length bound) lent
+  pub too-few : length lent < needed → Refused (refusal 23 needed) ≡ writtenOf (length bound) lent
   unfolding writtenOf
   too-few h = rw (← en) (rw (lt-ltb (length lent) needed h) refl)
 

@@ -2,9 +2,9 @@
 use Prim.Native.Nat.{ℕ, _^_, _≤_, _<_}
 use mathlib.Core.List.{List}
 use lib.ListN.{length}
-use Rattle.reader.specs.Kinds.{mostSources}
+use Rattle.reader.specs.Limits.{mostBindings}
 
 pub record Writable (width glue : ℕ) (bound : List ℕ) : Type 0 where
   pub width-fits : width ≤ 64
   pub glue-fits : glue < 2 ^ 28
-  pub few-bound : length bound ≤ mostSources
+  pub few-bound : length bound ≤ mostBindings

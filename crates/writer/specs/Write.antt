@@ -6,10 +6,10 @@ use lib.ListN.{length}
 use lib.Seq.{sets}
 use Rattle.words.specs.Choice.{if_then_else_}
 use Rattle.words.specs.Field.{contentOf, wordOf}
-use Rattle.words.specs.Paper.{Paper, accepted, refused}
-use Rattle.reader.specs.Kinds.{HEADER, BINDING, GLUE}
+use Rattle.words.specs.Kinds.{HEADER, BINDING, GLUE}
+use Rattle.words.specs.Paper.{Paper, refusal, accepted, told}
 use Rattle.writer.specs.declared.Written.{Written}
-use Rattle.writer.specs.declared.Written.the-variants.{Words, TooFew}
+use Rattle.writer.specs.declared.Written.the-variants.{Words, Refused}
 
 -- a rule's recipe as a binding: "5, 6: rule, binding: a recipe"
 abbrev pub bindingWord : ℕ → ℕ
@@ -23,14 +23,14 @@ bindingWords (w ∷ ws) = bindingWord w ∷ bindingWords ws
 abbrev pub mappingWords : ℕ → List ℕ → ℕ → List ℕ
 mappingWords width bound glue = wordOf HEADER width ∷ (bindingWords bound ++ (wordOf GLUE glue ∷ []))
 
--- "Lent words fewer than sources + 2; place: words needed."
+-- "sources + 2"
 abbrev pub wordsNeeded : ℕ → ℕ
 wordsNeeded sources = sources + 2
 
--- how many words are written, or refusal 23
+-- "23. Lent words fewer than sources + 2; place: words needed"; else so many words are written
 unfoldable pub writtenOf : ℕ → List ℕ → Written
 writtenOf sources lent =
-    if ltb (length lent) (wordsNeeded sources) then TooFew (wordsNeeded sources) else Words (wordsNeeded sources)
+    if ltb (length lent) (wordsNeeded sources) then Refused (refusal 23 (wordsNeeded sources)) else Words (wordsNeeded sources)
 
 -- "Lent words .. stay unchanged; on success words past the written ones do too": `sets lent 0 ws` is lent with ws from place 0 on
 unfoldable pub lentAfter : List ℕ → List ℕ → List ℕ
@@ -39,4 +39,4 @@ lentAfter ws lent = if ltb (length lent) (length ws) then lent else sets lent 0 
 -- the answer in document 01's numbers
 abbrev pub paperOf : Written → Paper
 paperOf (Words n) = accepted (n ∷ [])
-paperOf (TooFew needed) = refused 23 needed
+paperOf (Refused r) = told r

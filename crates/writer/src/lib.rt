@@ -1,30 +1,31 @@
 // The writer of mappings: header, bindings and glue count into lent words, or refusal 23 and no word touched.
+use words::Refusal;
 ghost use mathlib.Core.Path.{_≡_};
 ghost use Prim.Native.Nat.{_≤_};
 ghost use lib.ListN.{length};
-ghost use Rattle.reader.specs.Kinds.{mostSources};
+ghost use Rattle.reader.specs.Limits.{mostBindings};
 ghost use Rattle.writer.specs.Asked as Q;
 ghost use Rattle.writer.specs.Write as W;
 
 // How many words were written, or refusal 23 with the words needed.
 pub enum Written {
     Words(usize),
-    TooFew(usize),
+    Refused(Refusal),
 }
 
 // The words that a mapping of so many bindings takes.
-pub fn words_needed(sources: usize) -> usize
-    requires { ⌜ sources ≤ mostSources ⌝ }
+fn words_needed(sources: usize) -> usize
+    requires { ⌜ sources ≤ mostBindings ⌝ }
     ensures { λ r. ⌜ r ≡ W.wordsNeeded sources ⌝ }
 {
     sources + 2
 }
 
 // A rule's recipe as a binding.
-pub fn binding_word(word: u32) -> u32
+fn binding_word(word: u32) -> u32
     ensures { λ r. ⌜ r ≡ W.bindingWord word ⌝ }
 {
-    words::word_of(reader::BINDING, words::content_of(word))
+    words::word_of(words::BINDING, words::content_of(word))
 }
 
 // Writes the mapping that binds each of these recipes.
@@ -35,14 +36,17 @@ pub fn write_mapping(width: u32, bound: &[u32], glue: u32, lent: &mut [u32]) -> 
 {
     let needed = words_needed(bound.len());
     if lent.len() < needed {
-        return Written::TooFew(needed);
+        return Written::Refused(Refusal {
+            number: 23,
+            place: needed,
+        });
     }
-    lent[0] = words::word_of(reader::HEADER, width);
+    lent[0] = words::word_of(words::HEADER, width);
     let mut i = 0;
     while i < bound.len() {
-        lent[i + 1] = binding_word(bound[i]);
+        lent[reader::BINDINGS_START + i] = binding_word(bound[i]);
         i += 1;
     }
-    lent[i + 1] = words::word_of(reader::GLUE, glue);
+    lent[reader::BINDINGS_START + i] = words::word_of(words::GLUE, glue);
     Written::Words(needed)
 }

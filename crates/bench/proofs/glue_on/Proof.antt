@@ -1,7 +1,7 @@
 -- `bench::glue_on` meets its contract.
 use borrow.Author.Needs.{needs}
+use Rattle.bench.proofs.Binds.{width-sound}
 use Rattle.bench.proofs.Pricing.{counted-glue}
-use Rattle.bench.proofs.Soundness.{sound-width}
 use Rattle.bench.proofs.glue_on.Statement.{statement}
 use Rattle.bench.proofs.glue_on.Tie as tie
 
@@ -12,7 +12,7 @@ usage-of-requires : tie.Need-usage-of-requires
 usage-of-requires c κs = search needs
 
 price-requires : tie.Need-price-requires
-price-requires c κs = search sound-width
+price-requires c κs = search width-sound
 
 returns : tie.Need-returns
 returns c = (search counted-glue, search needs)

@@ -1,7 +1,7 @@
 -- `bench::unbound_on` meets its contract.
 use borrow.Author.Needs.{needs}
-use Rattle.bench.proofs.Shapes.{shaped, sources-fit, sources-within, sources-taken}
-use Rattle.bench.proofs.Soundness.{sound-sources}
+use Rattle.bench.proofs.Binds.{few-sources}
+use Rattle.bench.proofs.Shapes.{shaped, sources-fit, sources-taken, sources-within}
 use Rattle.bench.proofs.unbound_on.Statement.{statement}
 use Rattle.bench.proofs.unbound_on.Tie as tie
 
@@ -9,16 +9,16 @@ cast-nsources : tie.Need-cast-nsources
 cast-nsources c = search needs
 
 array-share-prefix-sources : tie.Need-array-share-prefix-sources
-array-share-prefix-sources c = search (shaped, sound-sources, sources-fit)
+array-share-prefix-sources c = search (shaped, few-sources, sources-fit)
 
-slice-aggregate-first-unbound : tie.Need-slice-aggregate-first-unbound
-slice-aggregate-first-unbound c = search (shaped, sound-sources, sources-taken)
+slice-aggregate-first-empty : tie.Need-slice-aggregate-first-empty
+slice-aggregate-first-empty c = search (shaped, few-sources, sources-taken)
 
-slice-aggregate-first-unbound-2 : tie.Need-slice-aggregate-first-unbound-2
-slice-aggregate-first-unbound-2 c = search needs
+slice-aggregate-first-empty-2 : tie.Need-slice-aggregate-first-empty-2
+slice-aggregate-first-empty-2 c = search needs
 
-first-unbound-requires : tie.Need-first-unbound-requires
-first-unbound-requires c κs = search (shaped, sound-sources, sources-within)
+first-empty-requires : tie.Need-first-empty-requires
+first-empty-requires c κs = search (shaped, few-sources, sources-within)
 
 returns : tie.Need-returns
 returns c = search needs
@@ -29,7 +29,7 @@ unbound-on-spec =
     (tie.spec
     cast-nsources
     array-share-prefix-sources
-    slice-aggregate-first-unbound
-    slice-aggregate-first-unbound-2
-    first-unbound-requires
+    slice-aggregate-first-empty
+    slice-aggregate-first-empty-2
+    first-empty-requires
     returns)

@@ -1,6 +1,6 @@
 -- `bench::write` meets its contract.
 use borrow.Author.Needs.{needs}
-use Rattle.bench.proofs.Finishing.{bound-taken, mapping-writable, bound-fit, words-written, words-lacking, mapping-laid}
+use Rattle.bench.proofs.Finishing.{bound-fit, bound-taken, mapping-writable, words-lacking, words-written, mapping-laid}
 use Rattle.bench.proofs.Shapes.{shaped}
 use Rattle.bench.proofs.write.Statement.{statement}
 use Rattle.bench.proofs.write.Tie as tie
@@ -30,13 +30,13 @@ same-length : tie.Need-same-length
 same-length c = search needs
 
 returns : tie.Need-returns
-returns c = (search (shaped, words-written), search (shaped, mapping-laid))
+returns c = (search (shaped, words-lacking), search (shaped, mapping-laid))
 
 same-length-2 : tie.Need-same-length-2
 same-length-2 c = search needs
 
 returns-2 : tie.Need-returns-2
-returns-2 c = (search (shaped, words-lacking), search (shaped, mapping-laid))
+returns-2 c = (search (shaped, words-written), search (shaped, mapping-laid))
 
 pub write-spec : {M : Type 1} → statement M
 write-spec =

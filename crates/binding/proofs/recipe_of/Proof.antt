@@ -1,11 +1,11 @@
 -- `binding::recipe_of` meets its contract.
 use borrow.Author.Needs.{needs}
-use Rattle.binding.proofs.Recipes.{is-target, is-scratch}
+use Rattle.binding.proofs.Recipes.{is-scratch, is-target}
 use Rattle.binding.proofs.recipe_of.Statement.{statement}
 use Rattle.binding.proofs.recipe_of.Tie as tie
 
-target-of-requires : tie.Need-target-of-requires
-target-of-requires c κs = search needs
+from-scratch-requires : tie.Need-from-scratch-requires
+from-scratch-requires c κs = search needs
 
 vector-of-requires : tie.Need-vector-of-requires
 vector-of-requires c κs = search needs
@@ -29,7 +29,7 @@ pub recipe-of-spec : {M : Type 1} → statement M
 recipe-of-spec =
     tie.close
     (tie.spec
-    target-of-requires
+    from-scratch-requires
     vector-of-requires
     scratch-requires
     returns

@@ -1,7 +1,7 @@
 -- `checker::check` meets its contract.
 use borrow.Author.Needs.{needs}
-use Rattle.pricer.proofs.Pairs.{mapping-read, job-read, width-read}
-use Rattle.checker.proofs.Rulings.{bad-mapping, both-judged, bad-job}
+use Rattle.fitting.proofs.Pairs.{job-read, mapping-read, width-read}
+use Rattle.checker.proofs.Rulings.{bad-job, bad-mapping, both-judged}
 use Rattle.checker.proofs.check.Statement.{statement}
 use Rattle.checker.proofs.check.Tie as tie
 

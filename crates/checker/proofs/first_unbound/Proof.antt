@@ -17,14 +17,14 @@ abbrev μ-loop : tie.MeasureT-loop
 loop-holds : tie.Need-loop-holds Inv-loop μ-loop
 loop-holds c = search needs
 
-mul-entry-place : tie.Need-mul-entry-place Inv-loop μ-loop
-mul-entry-place c = search needs
+mul-source-function : tie.Need-mul-source-function Inv-loop μ-loop
+mul-source-function c = search needs
 
-shared-slice-read-entry-place : tie.Need-shared-slice-read-entry-place Inv-loop μ-loop
-shared-slice-read-entry-place c = search needs
+shared-slice-read-source-function : tie.Need-shared-slice-read-source-function Inv-loop μ-loop
+shared-slice-read-source-function c = search needs
 
-entry-place-requires : tie.Need-entry-place-requires Inv-loop μ-loop
-entry-place-requires c κs = search needs
+source-function-requires : tie.Need-source-function-requires Inv-loop μ-loop
+source-function-requires c κs = search needs
 
 binds-requires : tie.Need-binds-requires Inv-loop μ-loop
 binds-requires c κs = search needs
@@ -51,9 +51,9 @@ first-unbound-spec =
     Inv-loop
     μ-loop
     loop-holds
-    mul-entry-place
-    shared-slice-read-entry-place
-    entry-place-requires
+    mul-source-function
+    shared-slice-read-source-function
+    source-function-requires
     binds-requires
     returns
     add-i

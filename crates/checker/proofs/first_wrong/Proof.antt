@@ -1,19 +1,21 @@
 -- `checker::first_wrong` meets its contract.
-use Prim.Native.Nat.{_≤_, _-_}
 use borrow.Author.Needs.{needs}
+use Prim.Native.Nat.{_-_, _≤_}
 use lib.ListN.{length, drop}
 use mathlib.Core.Path.{_≡_}
-use Rattle.checker.proofs.Judging.{all-right, next-binding, a-wrong-one}
-use Rattle.checker.proofs.first_wrong.Statement.{statement}
-use Rattle.checker.specs.Check.{unlessWrong, Gives}
+use Rattle.table.specs.Parts.{termsWith}
+use Rattle.verdict.specs.Verdicts.{Gives}
+use Rattle.checker.proofs.Judging.{a-wrong-one, next-binding, all-right}
+use Rattle.checker.specs.Check.{unlessWrong}
 use Rattle.checker.specs.declared.Checked.the-variants.{Accepted}
+use Rattle.checker.proofs.first_wrong.Statement.{statement}
 use Rattle.checker.proofs.first_wrong.Tie as tie
 
 abbrev Inv-loop : tie.InvT-loop
-Inv-loop bindings n i₀ i = (i ≤ length bindings) × (unlessWrong n (drop i bindings) (Gives Accepted) ≡ unlessWrong n bindings (Gives Accepted))
+Inv-loop job sources targets bindings i₀ i = (i ≤ length bindings) × (unlessWrong (termsWith job sources targets) (drop i bindings) (Gives Accepted) ≡ unlessWrong (termsWith job sources targets) bindings (Gives Accepted))
 
 abbrev μ-loop : tie.MeasureT-loop
-μ-loop bindings n i₀ i = length bindings - i
+μ-loop job sources targets bindings i₀ i = length bindings - i
 
 loop-holds : tie.Need-loop-holds Inv-loop μ-loop
 loop-holds c = search needs

@@ -1,14 +1,14 @@
 -- `checker::judge_fitting` meets its contract.
 use borrow.Author.Needs.{needs}
-use Rattle.checker.proofs.Rulings.{wrong-named, then-accounted, incomplete}
+use Rattle.checker.proofs.Rulings.{incomplete, wrong-named, then-accounted}
 use Rattle.checker.proofs.judge_fitting.Statement.{statement}
 use Rattle.checker.proofs.judge_fitting.Tie as tie
 
 first-unbound-requires : tie.Need-first-unbound-requires
 first-unbound-requires c κs = search needs
 
-cast-t13 : tie.Need-cast-t13
-cast-t13 c = search needs
+cast-t10 : tie.Need-cast-t10
+cast-t10 c = search needs
 
 returns : tie.Need-returns
 returns c = search incomplete
@@ -36,7 +36,7 @@ judge-fitting-spec =
     tie.close
     (tie.spec
     first-unbound-requires
-    cast-t13
+    cast-t10
     returns
     first-wrong-requires
     enum-known-verdict

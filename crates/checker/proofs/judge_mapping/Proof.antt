@@ -1,6 +1,6 @@
 -- `checker::judge_mapping` meets its contract.
 use borrow.Author.Needs.{needs}
-use Rattle.checker.proofs.Rulings.{fitting, misfit}
+use Rattle.checker.proofs.Rulings.{misfit, fitting}
 use Rattle.checker.proofs.judge_mapping.Statement.{statement}
 use Rattle.checker.proofs.judge_mapping.Tie as tie
 

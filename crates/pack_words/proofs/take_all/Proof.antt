@@ -8,10 +8,10 @@ use Rattle.pack_words.proofs.take_all.Statement.{statement}
 use Rattle.pack_words.proofs.take_all.Tie as tie
 
 abbrev Inv-loop : tie.InvT-loop
-Inv-loop chunk place now₀ i₀ now i = (i ≤ length chunk) × (place + length chunk ≤ 2 ^ 62)
+Inv-loop chunk at now₀ i₀ now i = (i ≤ length chunk) × (at + length chunk ≤ 2 ^ 62)
 
 abbrev μ-loop : tie.MeasureT-loop
-μ-loop chunk place now₀ i₀ now i = length chunk - i
+μ-loop chunk at now₀ i₀ now i = length chunk - i
 
 loop-holds : tie.Need-loop-holds Inv-loop μ-loop
 loop-holds c = search needs

@@ -4,9 +4,6 @@ use Rattle.pricer.proofs.Pricings.{glue-counted}
 use Rattle.pricer.proofs.glue_of.Statement.{statement}
 use Rattle.pricer.proofs.glue_of.Tie as tie
 
-prices-of-requires : tie.Need-prices-of-requires
-prices-of-requires c κs = search needs
-
 joined-requires : tie.Need-joined-requires
 joined-requires c κs = search needs
 
@@ -17,4 +14,4 @@ returns : tie.Need-returns
 returns c = search glue-counted
 
 pub glue-of-spec : {M : Type 1} → statement M
-glue-of-spec = tie.close (tie.spec prices-of-requires joined-requires price-requires returns)
+glue-of-spec = tie.close (tie.spec joined-requires price-requires returns)

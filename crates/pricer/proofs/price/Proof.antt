@@ -1,7 +1,7 @@
 -- `pricer::price` meets its contract.
 use borrow.Author.Needs.{needs}
-use Rattle.pricer.proofs.Pairs.{job-read, mapping-read, width-read}
-use Rattle.pricer.proofs.Pricings.{bad-mapping, both-priced, bad-job}
+use Rattle.fitting.proofs.Pairs.{job-read, mapping-read, width-read}
+use Rattle.pricer.proofs.Pricings.{bad-job, bad-mapping, both-priced}
 use Rattle.pricer.proofs.price.Statement.{statement}
 use Rattle.pricer.proofs.price.Tie as tie
 
@@ -26,8 +26,8 @@ targets-of-requires c κs = search job-read
 bindings-of-requires : tie.Need-bindings-of-requires
 bindings-of-requires c κs = search mapping-read
 
-price-mapping-requires : tie.Need-price-mapping-requires
-price-mapping-requires c κs = search width-read
+price-under-requires : tie.Need-price-under-requires
+price-under-requires c κs = search width-read
 
 returns : tie.Need-returns
 returns c = search bad-job
@@ -49,7 +49,7 @@ price-spec =
     sources-of-requires
     targets-of-requires
     bindings-of-requires
-    price-mapping-requires
+    price-under-requires
     returns
     returns-2
     returns-3)

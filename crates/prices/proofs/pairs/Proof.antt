@@ -5,31 +5,37 @@ use Rattle.prices.proofs.pairs.Statement.{statement}
 use Rattle.prices.proofs.pairs.Tie as tie
 
 abbrev Inv-loop : tie.InvT-loop
-Inv-loop t₀ x₀ i₀ t x i = i ≤ 56
+Inv-loop t₀ x₀ i₀ t6 t7 t x i = i ≤ 3136
 
 abbrev μ-loop : tie.MeasureT-loop
-μ-loop t₀ x₀ i₀ t x i = 56 - i
+μ-loop t₀ x₀ i₀ t6 t7 t x i = 3136 - i
 
-nothing-requires : tie.Need-nothing-requires Inv-loop μ-loop
-nothing-requires c κs = search needs
+none-requires : tie.Need-none-requires Inv-loop μ-loop
+none-requires c κs = search needs
 
 loop-holds : tie.Need-loop-holds Inv-loop μ-loop
 loop-holds c = search needs
 
-mul-paired : tie.Need-mul-paired Inv-loop μ-loop
-mul-paired c = search needs
+slice-aggregate-at : tie.Need-slice-aggregate-at Inv-loop μ-loop
+slice-aggregate-at c = search needs
 
-array-read-paired : tie.Need-array-read-paired Inv-loop μ-loop
-array-read-paired c = search needs
+at-requires : tie.Need-at-requires Inv-loop μ-loop
+at-requires c κs = search needs
 
-paired-requires : tie.Need-paired-requires Inv-loop μ-loop
-paired-requires c κs = search needs
+slice-aggregate-at-2 : tie.Need-slice-aggregate-at-2 Inv-loop μ-loop
+slice-aggregate-at-2 c = search needs
+
+at-requires-2 : tie.Need-at-requires-2 Inv-loop μ-loop
+at-requires-2 c κs = search needs
+
+slice-aggregate-compared : tie.Need-slice-aggregate-compared Inv-loop μ-loop
+slice-aggregate-compared c = search needs
+
+compared-requires : tie.Need-compared-requires Inv-loop μ-loop
+compared-requires c κs = search needs
 
 next-requires : tie.Need-next-requires Inv-loop μ-loop
 next-requires c κs = search needs
-
-next-requires-2 : tie.Need-next-requires-2 Inv-loop μ-loop
-next-requires-2 c κs = search needs
 
 add-i : tie.Need-add-i Inv-loop μ-loop
 add-i c = search needs
@@ -49,13 +55,15 @@ pairs-spec =
     (tie.spec
     Inv-loop
     μ-loop
-    nothing-requires
+    none-requires
     loop-holds
-    mul-paired
-    array-read-paired
-    paired-requires
+    slice-aggregate-at
+    at-requires
+    slice-aggregate-at-2
+    at-requires-2
+    slice-aggregate-compared
+    compared-requires
     next-requires
-    next-requires-2
     add-i
     loop-less
     loop-again

@@ -10,8 +10,8 @@ Inv-loop t₀ x₀ i₀ t x i = i ≤ 20000
 abbrev μ-loop : tie.MeasureT-loop
 μ-loop t₀ x₀ i₀ t x i = 20000 - i
 
-nothing-requires : tie.Need-nothing-requires Inv-loop μ-loop
-nothing-requires c κs = search needs
+none-requires : tie.Need-none-requires Inv-loop μ-loop
+none-requires c κs = search needs
 
 loop-holds : tie.Need-loop-holds Inv-loop μ-loop
 loop-holds c = search needs
@@ -22,14 +22,14 @@ next-requires c κs = search needs
 words-from-requires : tie.Need-words-from-requires Inv-loop μ-loop
 words-from-requires c κs = search needs
 
-width-from-requires : tie.Need-width-from-requires Inv-loop μ-loop
-width-from-requires c κs = search needs
+slice-aggregate-grown : tie.Need-slice-aggregate-grown Inv-loop μ-loop
+slice-aggregate-grown c = search needs
 
-next-requires-2 : tie.Need-next-requires-2 Inv-loop μ-loop
-next-requires-2 c κs = search needs
+add-grown : tie.Need-add-grown Inv-loop μ-loop
+add-grown c = search needs
 
-prices-from-requires : tie.Need-prices-from-requires Inv-loop μ-loop
-prices-from-requires c κs = search needs
+costs-from-requires : tie.Need-costs-from-requires Inv-loop μ-loop
+costs-from-requires c κs = search needs
 
 grown-requires : tie.Need-grown-requires Inv-loop μ-loop
 grown-requires c κs = search needs
@@ -37,8 +37,8 @@ grown-requires c κs = search needs
 add-next : tie.Need-add-next Inv-loop μ-loop
 add-next c = search needs
 
-next-requires-3 : tie.Need-next-requires-3 Inv-loop μ-loop
-next-requires-3 c κs = search needs
+next-requires-2 : tie.Need-next-requires-2 Inv-loop μ-loop
+next-requires-2 c κs = search needs
 
 add-i : tie.Need-add-i Inv-loop μ-loop
 add-i c = search needs
@@ -58,16 +58,16 @@ random-sets-spec =
     (tie.spec
     Inv-loop
     μ-loop
-    nothing-requires
+    none-requires
     loop-holds
     next-requires
     words-from-requires
-    width-from-requires
-    next-requires-2
-    prices-from-requires
+    slice-aggregate-grown
+    add-grown
+    costs-from-requires
     grown-requires
     add-next
-    next-requires-3
+    next-requires-2
     add-i
     loop-less
     loop-again

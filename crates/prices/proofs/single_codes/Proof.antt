@@ -10,8 +10,8 @@ Inv-loop t₀ i₀ t i = i ≤ 56
 abbrev μ-loop : tie.MeasureT-loop
 μ-loop t₀ i₀ t i = 56 - i
 
-nothing-requires : tie.Need-nothing-requires Inv-loop μ-loop
-nothing-requires c κs = search needs
+none-requires : tie.Need-none-requires Inv-loop μ-loop
+none-requires c κs = search needs
 
 loop-holds : tie.Need-loop-holds Inv-loop μ-loop
 loop-holds c = search needs
@@ -46,7 +46,7 @@ single-codes-spec =
     (tie.spec
     Inv-loop
     μ-loop
-    nothing-requires
+    none-requires
     loop-holds
     mul-t7
     array-read-t10

@@ -1,8 +1,8 @@
 -- `prices::words_from` meets its contract.
 use Prim.Native.Nat.{_≤_, _-_}
-use borrow.Author.Needs.{needs}
 use lib.ListN.{length}
 use mathlib.Core.Path.{_≡_}
+use borrow.Author.Needs.{needs}
 use Rattle.prices.proofs.words_from.Statement.{statement}
 use Rattle.prices.proofs.words_from.Tie as tie
 

@@ -1,7 +1,7 @@
 -- `reader::read_job` meets its contract.
 use borrow.Author.Needs.{needs}
 use native.Mathlib.Omega.{arith}
-use Rattle.reader.proofs.JobAnswers.{accepted, many-words, two-words, ended-early, no-words, stopped}
+use Rattle.reader.proofs.JobAnswers.{accepted, many-words, prices-there, ended-early, no-words, stopped}
 use Rattle.reader.proofs.read_job.Statement.{statement}
 use Rattle.reader.proofs.read_job.Tie as tie
 
@@ -27,7 +27,7 @@ shared-slice-read-job-facts : tie.Need-shared-slice-read-job-facts
 shared-slice-read-job-facts c = search needs
 
 shared-slice-read-job-facts-2 : tie.Need-shared-slice-read-job-facts-2
-shared-slice-read-job-facts-2 c = search two-words
+shared-slice-read-job-facts-2 c = search prices-there
 
 job-facts-requires : tie.Need-job-facts-requires
 job-facts-requires c κs = search needs

@@ -1,7 +1,7 @@
 -- `reader::read_mapping` meets its contract.
 use borrow.Author.Needs.{needs}
 use native.Mathlib.Omega.{arith}
-use Rattle.reader.proofs.MappingAnswers.{accepted, many-words, stopped, no-words, ended-early}
+use Rattle.reader.proofs.MappingAnswers.{no-words, many-words, ended-early, stopped, accepted}
 use Rattle.reader.proofs.read_mapping.Statement.{statement}
 use Rattle.reader.proofs.read_mapping.Tie as tie
 
@@ -20,6 +20,9 @@ enum-known-reading c = search needs
 enum-known-reading-2 : tie.Need-enum-known-reading-2
 enum-known-reading-2 c = search needs
 
+returns-3 : tie.Need-returns-3
+returns-3 c = search ended-early
+
 shared-slice-read-mapping-facts : tie.Need-shared-slice-read-mapping-facts
 shared-slice-read-mapping-facts c = search needs
 
@@ -35,14 +38,11 @@ shared-slice-read-mapping-facts-2 c = search needs
 mapping-facts-requires : tie.Need-mapping-facts-requires
 mapping-facts-requires c κs = search needs
 
-returns-3 : tie.Need-returns-3
-returns-3 c = search accepted
-
 returns-4 : tie.Need-returns-4
 returns-4 c = search stopped
 
 returns-5 : tie.Need-returns-5
-returns-5 c = search ended-early
+returns-5 c = search accepted
 
 pub read-mapping-spec : {M : Type 1} → statement M
 read-mapping-spec =
@@ -53,11 +53,11 @@ read-mapping-spec =
     read-words-requires
     enum-known-reading
     enum-known-reading-2
+    returns-3
     shared-slice-read-mapping-facts
     sub-mapping-facts
     mul-mapping-facts
     shared-slice-read-mapping-facts-2
     mapping-facts-requires
-    returns-3
     returns-4
     returns-5)

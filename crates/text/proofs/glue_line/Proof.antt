@@ -22,7 +22,7 @@ same-length c = search needs
 
 returns : tie.Need-returns
 unfolding glueLine
-returns c = after-put (c .before .before .before .before .before .before .before .put-labelled .ensures .1) (c .before .before .put .ensures)
+returns c = search after-put
 
 pub glue-line-spec : {M : Type 1} → statement M
 glue-line-spec =

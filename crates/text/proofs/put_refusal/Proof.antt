@@ -1,12 +1,15 @@
 -- `text::put_refusal` meets its contract.
-use Rattle.text.proofs.Lines.{after-put}
-use Rattle.text.specs.Text.{refusal}
 use borrow.Author.Needs.{needs}
+use Rattle.text.proofs.Lines.{after-put}
+use Rattle.text.specs.Text.{refusalText}
 use Rattle.text.proofs.put_refusal.Statement.{statement}
 use Rattle.text.proofs.put_refusal.Tie as tie
 
 slice-aggregate-put-labelled : tie.Need-slice-aggregate-put-labelled
 slice-aggregate-put-labelled c = search needs
+
+cast-put-labelled : tie.Need-cast-put-labelled
+cast-put-labelled c = search needs
 
 put-labelled-requires : tie.Need-put-labelled-requires
 put-labelled-requires c κs = search needs
@@ -21,14 +24,15 @@ same-length : tie.Need-same-length
 same-length c = search needs
 
 returns : tie.Need-returns
-unfolding refusal
-returns c = (search needs, after-put (c .before .before .before .before .before .before .before .put-labelled .ensures .1) (c .before .before .put-labelled2 .ensures .1))
+unfolding refusalText
+returns c = (search needs, search after-put)
 
 pub put-refusal-spec : {M : Type 1} → statement M
 put-refusal-spec =
     tie.close
     (tie.spec
     slice-aggregate-put-labelled
+    cast-put-labelled
     put-labelled-requires
     slice-aggregate-put-labelled-2
     put-labelled-requires-2

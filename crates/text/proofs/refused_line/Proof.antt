@@ -19,7 +19,7 @@ same-length c = search needs
 
 returns : tie.Need-returns
 unfolding refusedLine
-returns c = after-put (c .before .before .before .before .before .before .before .put-refusal .ensures .1) (c .before .before .put .ensures)
+returns c = search after-put
 
 pub refused-line-spec : {M : Type 1} → statement M
 refused-line-spec =

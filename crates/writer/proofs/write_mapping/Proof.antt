@@ -6,7 +6,8 @@ use lib.Seq.{sets}
 use mathlib.Core.List.{[], _∷_, _++_}
 use mathlib.Core.Path.{_≡_}
 use native.Mathlib.Omega.{arith}
-use Rattle.reader.specs.Kinds.{GLUE}
+use Rattle.words.specs.Kinds.{GLUE}
+use Rattle.reader.specs.Limits.{bindingsStart}
 use Rattle.words.specs.Field.{wordOf}
 use Rattle.writer.proofs.Writing.{glue-written, enough, all-written, binding-written, too-few, kept}
 use Rattle.writer.proofs.write_mapping.Statement.{statement}
@@ -14,7 +15,7 @@ use Rattle.writer.specs.Write.{bindingWords}
 use Rattle.writer.proofs.write_mapping.Tie as tie
 
 abbrev Inv-loop : tie.InvT-loop
-Inv-loop width bound glue lent₀ needed i₀ lent i = (i ≤ length bound) × (length lent ≡ length lent₀) × (length bound + 2 ≤ length lent₀) × (sets lent (i + 1) (bindingWords (drop i bound) ++ (wordOf GLUE glue ∷ [])) ≡ sets lent₀ 1 (bindingWords bound ++ (wordOf GLUE glue ∷ [])))
+Inv-loop width bound glue lent₀ needed i₀ lent i = (i ≤ length bound) × (length lent ≡ length lent₀) × (length bound + 2 ≤ length lent₀) × (sets lent (bindingsStart + i) (bindingWords (drop i bound) ++ (wordOf GLUE glue ∷ [])) ≡ sets lent₀ 1 (bindingWords bound ++ (wordOf GLUE glue ∷ [])))
 
 abbrev μ-loop : tie.MeasureT-loop
 μ-loop width bound glue lent₀ needed i₀ lent i = length bound - i

@@ -1,8 +1,8 @@
 -- `bench::Bench::bind` meets its contract.
 use borrow.Author.Needs.{needs}
-use Rattle.bench.proofs.Bench.bind.Statement.{statement}
-use Rattle.bench.proofs.Binds.{checked-sound, bind-right, bind-wrong, checked-width, bind-refused, checked-place}
+use Rattle.bench.proofs.Binds.{bind-refused, checked-sound, checked-entry, bind-wrong, bind-right}
 use Rattle.bench.proofs.Shapes.{shaped}
+use Rattle.bench.proofs.Bench.bind.Statement.{statement}
 use Rattle.bench.proofs.Bench.bind.Tie as tie
 
 bind-fault-requires : tie.Need-bind-fault-requires
@@ -14,11 +14,14 @@ bind-place-requires c κs = search needs
 returns : tie.Need-returns
 returns c = search bind-refused
 
-place-for-requires : tie.Need-place-for-requires
-place-for-requires c κs = search checked-sound
+entry-for-requires : tie.Need-entry-for-requires
+entry-for-requires c κs = search checked-sound
 
 verdict-on-requires : tie.Need-verdict-on-requires
-verdict-on-requires c κs = search checked-width
+verdict-on-requires c κs = search checked-sound
+
+enum-known-verdict : tie.Need-enum-known-verdict
+enum-known-verdict c = search needs
 
 enum-told : tie.Need-enum-told
 enum-told c = search needs
@@ -27,16 +30,13 @@ mul-self : tie.Need-mul-self
 mul-self c = search needs
 
 element-write-self : tie.Need-element-write-self
-element-write-self c = search (shaped, checked-place)
-
-enum-known-verdict : tie.Need-enum-known-verdict
-enum-known-verdict c = search needs
+element-write-self c = search (shaped, checked-entry)
 
 returns-2 : tie.Need-returns-2
-returns-2 c = search bind-right
+returns-2 c = search bind-wrong
 
 returns-3 : tie.Need-returns-3
-returns-3 c = search bind-wrong
+returns-3 c = search bind-right
 
 pub bind-spec : {M : Type 1} → statement M
 bind-spec =
@@ -45,11 +45,11 @@ bind-spec =
     bind-fault-requires
     bind-place-requires
     returns
-    place-for-requires
+    entry-for-requires
     verdict-on-requires
+    enum-known-verdict
     enum-told
     mul-self
     element-write-self
-    enum-known-verdict
     returns-2
     returns-3)

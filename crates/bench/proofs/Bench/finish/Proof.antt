@@ -1,8 +1,8 @@
 -- `bench::Bench::finish` meets its contract.
 use borrow.Author.Needs.{needs}
+use Rattle.bench.proofs.Binds.{is-sound}
+use Rattle.bench.proofs.Finishing.{finish-unsound, unsound-kept, finish-unbound, unbound-kept, all-sources-bound, finish-written, lent-written}
 use Rattle.bench.proofs.Bench.finish.Statement.{statement}
-use Rattle.bench.proofs.Finishing.{finish-unsound, finish-written, lent-written, finish-unbound, unsound-kept, unbound-kept, all-sources-bound}
-use Rattle.bench.proofs.Soundness.{is-sound}
 use Rattle.bench.proofs.Bench.finish.Tie as tie
 
 is-sound-requires : tie.Need-is-sound-requires
@@ -14,8 +14,8 @@ returns c = (search finish-unsound, search unsound-kept)
 unbound-on-requires : tie.Need-unbound-on-requires
 unbound-on-requires c κs = search is-sound
 
-cast-t7 : tie.Need-cast-t7
-cast-t7 c = search needs
+cast-t8 : tie.Need-cast-t8
+cast-t8 c = search needs
 
 returns-2 : tie.Need-returns-2
 returns-2 c = (search finish-unbound, search unbound-kept)
@@ -36,7 +36,7 @@ finish-spec =
     is-sound-requires
     returns
     unbound-on-requires
-    cast-t7
+    cast-t8
     returns-2
     write-requires
     same-length

@@ -1,7 +1,7 @@
 -- `bench::Bench::open` meets its contract.
 use borrow.Author.Needs.{needs}
+use Rattle.bench.proofs.Opened.{as-read, open-refused, open-accepted}
 use Rattle.bench.proofs.Bench.open.Statement.{statement}
-use Rattle.bench.proofs.Opening.{open-refused, open-accepted, as-read}
 use Rattle.bench.proofs.Bench.open.Tie as tie
 
 read-job-requires : tie.Need-read-job-requires

@@ -1,8 +1,8 @@
 -- `bench::Bench::price` meets its contract.
 use borrow.Author.Needs.{needs}
+use Rattle.bench.proofs.Binds.{is-sound}
+use Rattle.bench.proofs.Pricing.{price-refused, price-counted}
 use Rattle.bench.proofs.Bench.price.Statement.{statement}
-use Rattle.bench.proofs.Pricing.{price-counted, price-refused}
-use Rattle.bench.proofs.Soundness.{is-sound}
 use Rattle.bench.proofs.Bench.price.Tie as tie
 
 is-sound-requires : tie.Need-is-sound-requires

@@ -1,7 +1,6 @@
 -- `bench::faults::bind_fault` meets its contract.
 use borrow.Author.Needs.{needs}
-use Rattle.bench.proofs.Binds.{bind-absent, source-there, bad-word, bind-unsound, bind-taken, bind-free}
-use Rattle.bench.proofs.Soundness.{is-sound}
+use Rattle.bench.proofs.Binds.{is-sound, bind-unsound, bad-word, bind-absent, source-there, bind-taken, bind-free}
 use Rattle.bench.proofs.faults.bind_fault.Statement.{statement}
 use Rattle.bench.proofs.faults.bind_fault.Tie as tie
 

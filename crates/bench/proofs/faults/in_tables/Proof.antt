@@ -1,8 +1,7 @@
 -- `bench::faults::in_tables` meets its contract.
 use borrow.Author.Needs.{needs}
-use Rattle.bench.proofs.Binds.{source-present, source-absent}
-use Rattle.bench.proofs.Shapes.{shaped, sources-fit, targets-fit, sources-taken, targets-taken}
-use Rattle.bench.proofs.Soundness.{sound-targets, sound-sources}
+use Rattle.bench.proofs.Binds.{few-sources, few-targets}
+use Rattle.bench.proofs.Shapes.{shaped, sources-fit, sources-taken, targets-fit, targets-taken}
 use Rattle.bench.proofs.faults.in_tables.Statement.{statement}
 use Rattle.bench.proofs.faults.in_tables.Tie as tie
 
@@ -13,31 +12,22 @@ cast-ntargets : tie.Need-cast-ntargets
 cast-ntargets c = search needs
 
 array-share-prefix-sources : tie.Need-array-share-prefix-sources
-array-share-prefix-sources c = search (shaped, sound-sources, sources-fit)
+array-share-prefix-sources c = search (shaped, few-sources, sources-fit)
 
-slice-aggregate-lists : tie.Need-slice-aggregate-lists
-slice-aggregate-lists c = search (shaped, sound-sources, sources-taken)
-
-source-of-requires : tie.Need-source-of-requires
-source-of-requires c κs = search needs
-
-lists-requires : tie.Need-lists-requires
-lists-requires c κs = search needs
-
-returns : tie.Need-returns
-returns c = search source-absent
+slice-aggregate-in-job : tie.Need-slice-aggregate-in-job
+slice-aggregate-in-job c = search (shaped, few-sources, sources-taken)
 
 array-share-prefix-targets : tie.Need-array-share-prefix-targets
-array-share-prefix-targets c = search (shaped, sound-targets, targets-fit)
+array-share-prefix-targets c = search (shaped, few-targets, targets-fit)
 
-slice-aggregate-has-target : tie.Need-slice-aggregate-has-target
-slice-aggregate-has-target c = search (shaped, sound-targets, targets-taken)
+slice-aggregate-in-job-2 : tie.Need-slice-aggregate-in-job-2
+slice-aggregate-in-job-2 c = search (shaped, few-targets, targets-taken)
 
-has-target-requires : tie.Need-has-target-requires
-has-target-requires c κs = search needs
+in-job-requires : tie.Need-in-job-requires
+in-job-requires c κs = search needs
 
-returns-2 : tie.Need-returns-2
-returns-2 c = search source-present
+returns : tie.Need-returns
+returns c = search needs
 
 pub in-tables-spec : {M : Type 1} → statement M
 in-tables-spec =
@@ -46,11 +36,8 @@ in-tables-spec =
     cast-nsources
     cast-ntargets
     array-share-prefix-sources
-    slice-aggregate-lists
-    source-of-requires
-    lists-requires
-    returns
+    slice-aggregate-in-job
     array-share-prefix-targets
-    slice-aggregate-has-target
-    has-target-requires
-    returns-2)
+    slice-aggregate-in-job-2
+    in-job-requires
+    returns)

@@ -16,8 +16,8 @@ empty-requires c κs = search needs
 loop-holds : tie.Need-loop-holds Inv-loop μ-loop
 loop-holds c = search needs
 
-with-bit-requires : tie.Need-with-bit-requires Inv-loop μ-loop
-with-bit-requires c κs = search needs
+turned-requires : tie.Need-turned-requires Inv-loop μ-loop
+turned-requires c κs = search needs
 
 with-requires : tie.Need-with-requires Inv-loop μ-loop
 with-requires c κs = search needs
@@ -42,7 +42,7 @@ with-each-bit-spec =
     μ-loop
     empty-requires
     loop-holds
-    with-bit-requires
+    turned-requires
     with-requires
     add-i
     loop-less

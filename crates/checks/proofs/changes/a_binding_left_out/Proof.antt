@@ -5,16 +5,13 @@ use Rattle.checks.proofs.changes.a_binding_left_out.Statement.{statemen
 use Rattle.checks.proofs.changes.a_binding_left_out.Tie as tie
 
 abbrev Inv-loop : tie.InvT-loop
-Inv-loop n job mapping all₀ place₀ all place = place ≤ 5
+Inv-loop n both all₀ place₀ all place = place ≤ 5
 
 abbrev μ-loop : tie.MeasureT-loop
-μ-loop n job mapping all₀ place₀ all place = 5 - place
+μ-loop n both all₀ place₀ all place = 5 - place
 
-job-at-requires : tie.Need-job-at-requires Inv-loop μ-loop
-job-at-requires c κs = search needs
-
-mapping-at-requires : tie.Need-mapping-at-requires Inv-loop μ-loop
-mapping-at-requires c κs = search needs
+printed-at-requires : tie.Need-printed-at-requires Inv-loop μ-loop
+printed-at-requires c κs = search needs
 
 none-requires : tie.Need-none-requires Inv-loop μ-loop
 none-requires c κs = search needs
@@ -22,14 +19,20 @@ none-requires c κs = search needs
 loop-holds : tie.Need-loop-holds Inv-loop μ-loop
 loop-holds c = search needs
 
+slice-aggregate-without : tie.Need-slice-aggregate-without Inv-loop μ-loop
+slice-aggregate-without c = search needs
+
 without-requires : tie.Need-without-requires Inv-loop μ-loop
 without-requires c κs = search needs
 
+slice-aggregate-first : tie.Need-slice-aggregate-first Inv-loop μ-loop
+slice-aggregate-first c = search needs
+
+first-requires : tie.Need-first-requires Inv-loop μ-loop
+first-requires c κs = search needs
+
 slice-aggregate-compared : tie.Need-slice-aggregate-compared Inv-loop μ-loop
 slice-aggregate-compared c = search needs
-
-slice-aggregate-compared-2 : tie.Need-slice-aggregate-compared-2 Inv-loop μ-loop
-slice-aggregate-compared-2 c = search needs
 
 compared-requires : tie.Need-compared-requires Inv-loop μ-loop
 compared-requires c κs = search needs
@@ -52,13 +55,14 @@ a-binding-left-out-spec =
     (tie.spec
     Inv-loop
     μ-loop
-    job-at-requires
-    mapping-at-requires
+    printed-at-requires
     none-requires
     loop-holds
+    slice-aggregate-without
     without-requires
+    slice-aggregate-first
+    first-requires
     slice-aggregate-compared
-    slice-aggregate-compared-2
     compared-requires
     add-place
     loop-less

@@ -5,25 +5,22 @@ use Rattle.checks.proofs.changes.with_each_bit.Statement.{statement}
 use Rattle.checks.proofs.changes.with_each_bit.Tie as tie
 
 abbrev Inv-loop : tie.InvT-loop
-Inv-loop mapping from job all₀ bit₀ all bit = 0 ≤ bit
+Inv-loop both from to all₀ bit₀ all bit = 0 ≤ bit
 
 abbrev μ-loop : tie.MeasureT-loop
-μ-loop mapping from job all₀ bit₀ all bit = 192 - bit
+μ-loop both from to all₀ bit₀ all bit = to - bit
 
 loop-holds : tie.Need-loop-holds Inv-loop μ-loop
 loop-holds c = search needs
 
-with-bit-of-mapping-requires : tie.Need-with-bit-of-mapping-requires Inv-loop μ-loop
-with-bit-of-mapping-requires c κs = search needs
+turned-requires : tie.Need-turned-requires Inv-loop μ-loop
+turned-requires c κs = search needs
 
-slice-aggregate-compared : tie.Need-slice-aggregate-compared Inv-loop μ-loop
-slice-aggregate-compared c = search needs
+slice-aggregate-with-both : tie.Need-slice-aggregate-with-both Inv-loop μ-loop
+slice-aggregate-with-both c = search needs
 
-slice-aggregate-compared-2 : tie.Need-slice-aggregate-compared-2 Inv-loop μ-loop
-slice-aggregate-compared-2 c = search needs
-
-compared-requires : tie.Need-compared-requires Inv-loop μ-loop
-compared-requires c κs = search needs
+with-both-requires : tie.Need-with-both-requires Inv-loop μ-loop
+with-both-requires c κs = search needs
 
 add-bit : tie.Need-add-bit Inv-loop μ-loop
 add-bit c = search needs
@@ -44,10 +41,9 @@ with-each-bit-spec =
     Inv-loop
     μ-loop
     loop-holds
-    with-bit-of-mapping-requires
-    slice-aggregate-compared
-    slice-aggregate-compared-2
-    compared-requires
+    turned-requires
+    slice-aggregate-with-both
+    with-both-requires
     add-bit
     loop-less
     loop-again

@@ -1,5 +1,5 @@
 -- `checks::random::random_files` meets its contract.
-use Prim.Native.Nat.{_-_, _≤_}
+use Prim.Native.Nat.{_≤_, _-_}
 use borrow.Author.Needs.{needs}
 use Rattle.checks.proofs.random.random_files.Statement.{statement}
 use Rattle.checks.proofs.random.random_files.Tie as tie

@@ -1,5 +1,6 @@
 -- `console::input::read_words` meets its contract.
 use Prim.Native.Nat.{_%_, _/_}
+use Rattle.console.specs.Read.{keptBytes}
 use Rattle.console.proofs.Parts.{array-start, kept-words, words-fit, words-kept}
 use Rattle.text.specs.Text.{bytes}
 use mathlib.Core.Path.{_≡_}
@@ -32,7 +33,7 @@ same-length : tie.Need-same-length
 same-length c = search needs
 
 returns : tie.Need-returns
-returns c = let r = c .before .before .before .before .before .before .before .before .before .read-bytes .result in let k : c .before .before .before .before .words-of .result ≡ (if ltb (r .bytes) 2276 then r .bytes else 2276) / 4 = search kept-words in (search words-kept, record { bytes = r .bytes; failed = r .failed; same = λ i. record { kept = k i; whole = r .bytes / 4; cut = not (eqb (r .bytes % 4) 0); failed = r .failed } })
+returns c = let r = c .before .before .before .before .before .before .before .before .before .read-bytes .result in let k : c .before .before .before .before .words-of .result ≡ (if ltb (r .bytes) keptBytes then r .bytes else keptBytes) / 4 = search kept-words in (search words-kept, record { bytes = r .bytes; failed = r .failed; same = λ i. record { kept = k i; whole = r .bytes / 4; cut = not (eqb (r .bytes % 4) 0); failed = r .failed } })
 
 pub read-words-spec : {M : Type 1} → statement M
 read-words-spec =

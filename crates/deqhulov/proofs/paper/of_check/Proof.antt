@@ -6,8 +6,8 @@ use Rattle.deqhulov.proofs.paper.of_check.Tie as tie
 enum-told : tie.Need-enum-told
 enum-told c = search needs
 
-refusal-requires : tie.Need-refusal-requires
-refusal-requires c κs = search needs
+refused-requires : tie.Need-refused-requires
+refused-requires c κs = search needs
 
 enum-known-checked : tie.Need-enum-known-checked
 enum-known-checked c = search needs
@@ -24,8 +24,8 @@ with-value-requires-2 c κs = search needs
 enum-known-checked-3 : tie.Need-enum-known-checked-3
 enum-known-checked-3 c = search needs
 
-refusal-requires-2 : tie.Need-refusal-requires-2
-refusal-requires-2 c κs = search needs
+refused-requires-2 : tie.Need-refused-requires-2
+refused-requires-2 c κs = search needs
 
 enum-known-checked-4 : tie.Need-enum-known-checked-4
 enum-known-checked-4 c = search needs
@@ -34,7 +34,7 @@ wrong-requires : tie.Need-wrong-requires
 wrong-requires c κs = search needs
 
 returns : tie.Need-returns
-returns c = rw (c .before .enum-told .given .1) (c .refusal .ensures)
+returns c = rw (c .before .enum-told .given .1) (c .refused .ensures)
 
 returns-2 : tie.Need-returns-2
 returns-2 c = rw (c .before .before .checked .given .1) (c .with-value .ensures)
@@ -43,7 +43,7 @@ returns-3 : tie.Need-returns-3
 returns-3 c = rw (c .before .before .checked2 .given .1) (c .with-value2 .ensures)
 
 returns-4 : tie.Need-returns-4
-returns-4 c = rw (c .before .before .checked3 .given .1) (c .refusal2 .ensures)
+returns-4 c = rw (c .before .before .checked3 .given .1) (c .refused2 .ensures)
 
 returns-5 : tie.Need-returns-5
 returns-5 c = rw (c .before .before .checked4 .given .1) (c .wrong .ensures)
@@ -53,13 +53,13 @@ of-check-spec =
     tie.close
     (tie.spec
     enum-told
-    refusal-requires
+    refused-requires
     enum-known-checked
     with-value-requires
     enum-known-checked-2
     with-value-requires-2
     enum-known-checked-3
-    refusal-requires-2
+    refused-requires-2
     enum-known-checked-4
     wrong-requires
     returns

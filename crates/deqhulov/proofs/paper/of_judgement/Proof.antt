@@ -12,17 +12,14 @@ of-verdict-requires c κs = search needs
 enum-known-judgement-2 : tie.Need-enum-known-judgement-2
 enum-known-judgement-2 c = search needs
 
-cast-refusal : tie.Need-cast-refusal
-cast-refusal c = search needs
-
-refusal-requires : tie.Need-refusal-requires
-refusal-requires c κs = search needs
+refused-requires : tie.Need-refused-requires
+refused-requires c κs = search needs
 
 returns : tie.Need-returns
 returns c = rw (c .before .before .judgement .given .1) (c .of-verdict .ensures)
 
 returns-2 : tie.Need-returns-2
-returns-2 c = rw (c .before .before .judgement2 .given .1) (c .refusal .ensures)
+returns-2 c = rw (c .before .before .judgement2 .given .1) (c .refused .ensures)
 
 pub of-judgement-spec : {M : Type 1} → statement M
 of-judgement-spec =
@@ -31,7 +28,6 @@ of-judgement-spec =
     enum-known-judgement
     of-verdict-requires
     enum-known-judgement-2
-    cast-refusal
-    refusal-requires
+    refused-requires
     returns
     returns-2)

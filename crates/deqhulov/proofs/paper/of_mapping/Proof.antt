@@ -12,14 +12,14 @@ with-value-requires c κs = search needs
 enum-known-answer-2 : tie.Need-enum-known-answer-2
 enum-known-answer-2 c = search needs
 
-refusal-requires : tie.Need-refusal-requires
-refusal-requires c κs = search needs
+refused-requires : tie.Need-refused-requires
+refused-requires c κs = search needs
 
 returns : tie.Need-returns
 returns c = rw (c .before .before .answer .given .1) (c .with-value .ensures)
 
 returns-2 : tie.Need-returns-2
-returns-2 c = rw (c .before .before .answer2 .given .1) (c .refusal .ensures)
+returns-2 c = rw (c .before .before .answer2 .given .1) (c .refused .ensures)
 
 pub of-mapping-spec : {M : Type 1} → statement M
 of-mapping-spec =
@@ -28,6 +28,6 @@ of-mapping-spec =
     enum-known-answer
     with-value-requires
     enum-known-answer-2
-    refusal-requires
+    refused-requires
     returns
     returns-2)

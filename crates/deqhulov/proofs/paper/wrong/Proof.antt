@@ -1,8 +1,14 @@
 -- `deqhulov::paper::wrong` meets its contract.
-use mathlib.Core.Path.{refl}
 use borrow.Author.Needs.{needs}
+use mathlib.Core.Path.{refl}
 use Rattle.deqhulov.proofs.paper.wrong.Statement.{statement}
 use Rattle.deqhulov.proofs.paper.wrong.Tie as tie
+
+cast-t2 : tie.Need-cast-t2
+cast-t2 c = search needs
+
+cast-t4 : tie.Need-cast-t4
+cast-t4 c = search needs
 
 number-requires : tie.Need-number-requires
 number-requires c κs = search needs
@@ -11,4 +17,4 @@ returns : tie.Need-returns
 returns c = (rw (c .number .ensures) refl, search needs)
 
 pub wrong-spec : {M : Type 1} → statement M
-wrong-spec = tie.close (tie.spec number-requires returns)
+wrong-spec = tie.close (tie.spec cast-t2 cast-t4 number-requires returns)

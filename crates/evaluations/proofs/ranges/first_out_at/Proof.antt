@@ -1,6 +1,6 @@
 -- `evaluations::ranges::first_out_at` meets its contract.
-use borrow.Author.Needs.{needs}
 use Prim.Native.Nat.{_≤_, _-_}
+use borrow.Author.Needs.{needs}
 use Rattle.evaluations.proofs.ranges.first_out_at.Statement.{statement}
 use Rattle.evaluations.proofs.ranges.first_out_at.Tie as tie
 
@@ -10,14 +10,23 @@ Inv-loop place tally₀ i₀ tally i = i ≤ 3125
 abbrev μ-loop : tie.MeasureT-loop
 μ-loop place tally₀ i₀ tally i = 3125 - i
 
-empty-requires : tie.Need-empty-requires Inv-loop μ-loop
-empty-requires c κs = search needs
+none-requires : tie.Need-none-requires Inv-loop μ-loop
+none-requires c κs = search needs
 
 loop-holds : tie.Need-loop-holds Inv-loop μ-loop
 loop-holds c = search needs
 
-tried-requires : tie.Need-tried-requires Inv-loop μ-loop
-tried-requires c κs = search needs
+first-place-requires : tie.Need-first-place-requires Inv-loop μ-loop
+first-place-requires c κs = search needs
+
+choice-requires : tie.Need-choice-requires Inv-loop μ-loop
+choice-requires c κs = search needs
+
+agree-requires : tie.Need-agree-requires Inv-loop μ-loop
+agree-requires c κs = search needs
+
+counted-requires : tie.Need-counted-requires Inv-loop μ-loop
+counted-requires c κs = search needs
 
 add-i : tie.Need-add-i Inv-loop μ-loop
 add-i c = search needs
@@ -37,9 +46,12 @@ first-out-at-spec =
     (tie.spec
     Inv-loop
     μ-loop
-    empty-requires
+    none-requires
     loop-holds
-    tried-requires
+    first-place-requires
+    choice-requires
+    agree-requires
+    counted-requires
     add-i
     loop-less
     loop-again

@@ -1,6 +1,6 @@
 -- `mapper::choose::consider` meets its contract.
 use borrow.Author.Needs.{needs}
-use Rattle.mapper.proofs.Choosing.{takes-its-place, other-function, wrong-rule, no-less, no-target}
+use Rattle.mapper.proofs.Choosing.{other-function, no-target, no-less, wrong-rule, best-now}
 use Rattle.mapper.proofs.choose.consider.Statement.{statement}
 use Rattle.mapper.proofs.choose.consider.Tie as tie
 
@@ -35,7 +35,7 @@ returns-4 : tie.Need-returns-4
 returns-4 c = search wrong-rule
 
 returns-5 : tie.Need-returns-5
-returns-5 c = let g = c .before .before .before .before .before .before .before .before .before .before .before .before .args in takes-its-place _ _ _ (g .function) (g .used) (g .word) (g .best) _ (c .before .before .before .before .before .before .before .before .before .before .source-of .ensures) (c .before .before .before .before .before .before .before .before .before .if1 .left) _ (c .before .before .before .before .before .before .before .before .has-target .ensures) (c .before .before .before .before .before .before .before .if2 .left) _ _ (c .before .before .before .before .before .usage-of .ensures) (c .before .before .before .before .price .ensures .0) _ (c .before .before .before .beats .ensures) (c .before .before .if3 .left) _ (c .before .is-right .ensures) (c .if4 .left)
+returns-5 c = let g = c .before .before .before .before .before .before .before .before .before .before .before .before .before .args in best-now (g .job) (g .sources .now) (g .targets .now) (g .function) (g .used) (g .word) (g .best) _ (c .before .before .before .before .before .before .before .before .before .before .source-of .ensures) (c .before .before .before .before .before .before .before .before .before .if1 .left) _ (c .before .before .before .before .before .before .before .before .has-target .ensures) (c .before .before .before .before .before .before .before .if2 .left) _ _ (c .before .before .before .before .before .usage-of .ensures) (c .before .before .before .before .price .ensures .0) _ (c .before .before .before .beats .ensures) (c .before .before .if3 .left) _ (c .before .is-right .ensures) (c .if4 .left)
 
 pub consider-spec : {M : Type 1} → statement M
 consider-spec =

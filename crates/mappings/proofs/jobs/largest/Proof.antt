@@ -1,16 +1,16 @@
 -- `mappings::jobs::largest` meets its contract.
-use Prim.Native.Nat.{_-_, _≤_}
-use borrow.Author.Needs.{needs}
+use Prim.Native.Nat.{_≤_, _-_}
 use lib.ListN.{length}
 use mathlib.Core.Path.{_≡_}
+use borrow.Author.Needs.{needs}
 use Rattle.mappings.proofs.jobs.largest.Statement.{statement}
 use Rattle.mappings.proofs.jobs.largest.Tie as tie
 
 abbrev Inv-loop : tie.InvT-loop
-Inv-loop words₀ i₀ words i = (length words ≡ 568) × (i ≤ 568)
+Inv-loop words₀ function₀ place₀ words function place = (place ≤ 28) × (length words ≡ 568)
 
 abbrev μ-loop : tie.MeasureT-loop
-μ-loop words₀ i₀ words i = 568 - i
+μ-loop words₀ function₀ place₀ words function place = 28 - place
 
 array-write-words : tie.Need-array-write-words Inv-loop μ-loop
 array-write-words c = search needs
@@ -21,8 +21,11 @@ array-write-words-2 c = search needs
 loop-holds : tie.Need-loop-holds Inv-loop μ-loop
 loop-holds c = search needs
 
-word-at-requires : tie.Need-word-at-requires Inv-loop μ-loop
-word-at-requires c κs = search needs
+word-of-requires : tie.Need-word-of-requires Inv-loop μ-loop
+word-of-requires c κs = search needs
+
+add-words : tie.Need-add-words Inv-loop μ-loop
+add-words c = search needs
 
 mul-words : tie.Need-mul-words Inv-loop μ-loop
 mul-words c = search needs
@@ -30,8 +33,35 @@ mul-words c = search needs
 array-write-words-3 : tie.Need-array-write-words-3 Inv-loop μ-loop
 array-write-words-3 c = search needs
 
-add-i : tie.Need-add-i Inv-loop μ-loop
-add-i c = search needs
+word-of-requires-2 : tie.Need-word-of-requires-2 Inv-loop μ-loop
+word-of-requires-2 c κs = search needs
+
+add-words-2 : tie.Need-add-words-2 Inv-loop μ-loop
+add-words-2 c = search needs
+
+mul-words-2 : tie.Need-mul-words-2 Inv-loop μ-loop
+mul-words-2 c = search needs
+
+array-write-words-4 : tie.Need-array-write-words-4 Inv-loop μ-loop
+array-write-words-4 c = search needs
+
+word-of-requires-3 : tie.Need-word-of-requires-3 Inv-loop μ-loop
+word-of-requires-3 c κs = search needs
+
+add-words-3 : tie.Need-add-words-3 Inv-loop μ-loop
+add-words-3 c = search needs
+
+mul-words-3 : tie.Need-mul-words-3 Inv-loop μ-loop
+mul-words-3 c = search needs
+
+array-write-words-5 : tie.Need-array-write-words-5 Inv-loop μ-loop
+array-write-words-5 c = search needs
+
+wrapping-add-u32-requires : tie.Need-wrapping-add-u32-requires Inv-loop μ-loop
+wrapping-add-u32-requires c κs = search needs
+
+add-place : tie.Need-add-place Inv-loop μ-loop
+add-place c = search needs
 
 loop-less : tie.Need-loop-less Inv-loop μ-loop
 loop-less c = search needs
@@ -51,10 +81,20 @@ largest-spec =
     array-write-words
     array-write-words-2
     loop-holds
-    word-at-requires
+    word-of-requires
+    add-words
     mul-words
     array-write-words-3
-    add-i
+    word-of-requires-2
+    add-words-2
+    mul-words-2
+    array-write-words-4
+    word-of-requires-3
+    add-words-3
+    mul-words-3
+    array-write-words-5
+    wrapping-add-u32-requires
+    add-place
     loop-less
     loop-again
     returns)

@@ -1,12 +1,16 @@
 -- `reader::sequence::mapping_sequence` meets its contract.
+use borrow.Author.Needs.{needs}
 use Rattle.words.proofs.Choices.{decide}
-use Rattle.reader.proofs.sequence.mapping_sequence.Statement.{statement}
 use Rattle.reader.specs.Sequence.{mappingSequence}
+use Rattle.reader.proofs.sequence.mapping_sequence.Statement.{statement}
 use Rattle.reader.proofs.sequence.mapping_sequence.Tie as tie
 
 returns : tie.Need-returns
 unfolding mappingSequence
 returns c = search decide
+
+cast-result : tie.Need-cast-result
+cast-result c = search needs
 
 returns-2 : tie.Need-returns-2
 unfolding mappingSequence
@@ -16,5 +20,9 @@ returns-3 : tie.Need-returns-3
 unfolding mappingSequence
 returns-3 c = search decide
 
+returns-4 : tie.Need-returns-4
+unfolding mappingSequence
+returns-4 c = search decide
+
 pub mapping-sequence-spec : {M : Type 1} → statement M
-mapping-sequence-spec = tie.close (tie.spec returns returns-2 returns-3)
+mapping-sequence-spec = tie.close (tie.spec returns cast-result returns-2 returns-3 returns-4)

@@ -1,8 +1,8 @@
 -- `readings::damage::damaged` meets its contract.
-use mathlib.Core.Path.{_≡_}
-use lib.ListN.{length}
-use borrow.Author.Needs.{needs}
 use Prim.Native.Nat.{_≤_, _-_}
+use lib.ListN.{length}
+use mathlib.Core.Path.{_≡_}
+use borrow.Author.Needs.{needs}
 use Rattle.readings.proofs.damage.damaged.Statement.{statement}
 use Rattle.readings.proofs.damage.damaged.Tie as tie
 

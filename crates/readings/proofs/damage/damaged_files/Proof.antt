@@ -1,19 +1,19 @@
 -- `readings::damage::damaged_files` meets its contract.
-use mathlib.Core.Path.{_≡_}
-use lib.ListN.{length}
-use borrow.Author.Needs.{needs}
 use Prim.Native.Nat.{_≤_, _-_}
+use lib.ListN.{length}
+use mathlib.Core.Path.{_≡_}
+use borrow.Author.Needs.{needs}
 use Rattle.readings.proofs.damage.damaged_files.Statement.{statement}
 use Rattle.readings.proofs.damage.damaged_files.Tie as tie
 
 abbrev Inv-loop : tie.InvT-loop
-Inv-loop form files words₀ state₀ tally₀ i₀ words state tally i = (i ≤ files) × (length words ≡ 600)
+Inv-loop of-job files words₀ state₀ all₀ i₀ words state all i = (i ≤ files) × (length words ≡ 600)
 
 abbrev μ-loop : tie.MeasureT-loop
-μ-loop form files words₀ state₀ tally₀ i₀ words state tally i = files - i
+μ-loop of-job files words₀ state₀ all₀ i₀ words state all i = files - i
 
-empty-requires : tie.Need-empty-requires Inv-loop μ-loop
-empty-requires c κs = search needs
+no-numbers-requires : tie.Need-no-numbers-requires Inv-loop μ-loop
+no-numbers-requires c κs = search needs
 
 loop-holds : tie.Need-loop-holds Inv-loop μ-loop
 loop-holds c = search needs
@@ -54,7 +54,7 @@ damaged-files-spec =
     (tie.spec
     Inv-loop
     μ-loop
-    empty-requires
+    no-numbers-requires
     loop-holds
     slice-aggregate-random-file
     random-file-requires

@@ -1,8 +1,8 @@
 -- `readings::files::entries` meets its contract.
+use Prim.Native.Nat.{_≤_, _-_}
 use lib.ListN.{length}
 use mathlib.Core.Path.{_≡_}
 use borrow.Author.Needs.{needs}
-use Prim.Native.Nat.{_≤_, _-_}
 use Rattle.readings.proofs.files.entries.Statement.{statement}
 use Rattle.readings.proofs.files.entries.Tie as tie
 
@@ -15,14 +15,20 @@ abbrev μ-loop : tie.MeasureT-loop
 loop-holds : tie.Need-loop-holds Inv-loop μ-loop
 loop-holds c = search needs
 
+add-function : tie.Need-add-function Inv-loop μ-loop
+add-function c = search needs
+
+add-function-2 : tie.Need-add-function-2 Inv-loop μ-loop
+add-function-2 c = search needs
+
+cast-word-of : tie.Need-cast-word-of Inv-loop μ-loop
+cast-word-of c = search needs
+
+word-of-requires : tie.Need-word-of-requires Inv-loop μ-loop
+word-of-requires c κs = search needs
+
 wrapping-add-usize-requires : tie.Need-wrapping-add-usize-requires Inv-loop μ-loop
 wrapping-add-usize-requires c κs = search needs
-
-add-narrow : tie.Need-add-narrow Inv-loop μ-loop
-add-narrow c = search needs
-
-narrow-requires : tie.Need-narrow-requires Inv-loop μ-loop
-narrow-requires c κs = search needs
 
 put-requires : tie.Need-put-requires Inv-loop μ-loop
 put-requires c κs = search needs
@@ -52,9 +58,11 @@ entries-spec =
     Inv-loop
     μ-loop
     loop-holds
+    add-function
+    add-function-2
+    cast-word-of
+    word-of-requires
     wrapping-add-usize-requires
-    add-narrow
-    narrow-requires
     put-requires
     add-i
     loop-less

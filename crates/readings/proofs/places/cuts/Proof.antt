@@ -1,23 +1,23 @@
 -- `readings::places::cuts` meets its contract.
-use borrow.Author.Needs.{needs}
 use Prim.Native.Nat.{_≤_, _-_}
+use borrow.Author.Needs.{needs}
 use Rattle.readings.proofs.places.cuts.Statement.{statement}
 use Rattle.readings.proofs.places.cuts.Tie as tie
 
 abbrev Inv-loop : tie.InvT-loop
-Inv-loop form words tally₀ n₀ tally n = n ≤ 17
+Inv-loop of-job words all₀ n₀ all n = n ≤ 17
 
 abbrev μ-loop : tie.MeasureT-loop
-μ-loop form words tally₀ n₀ tally n = 17 - n
+μ-loop of-job words all₀ n₀ all n = 17 - n
 
-slice-aggregate-plain : tie.Need-slice-aggregate-plain Inv-loop μ-loop
-slice-aggregate-plain c = search needs
+slice-aggregate-seventeen : tie.Need-slice-aggregate-seventeen Inv-loop μ-loop
+slice-aggregate-seventeen c = search needs
 
-plain-requires : tie.Need-plain-requires Inv-loop μ-loop
-plain-requires c κs = search needs
+seventeen-requires : tie.Need-seventeen-requires Inv-loop μ-loop
+seventeen-requires c κs = search needs
 
-empty-requires : tie.Need-empty-requires Inv-loop μ-loop
-empty-requires c κs = search needs
+no-numbers-requires : tie.Need-no-numbers-requires Inv-loop μ-loop
+no-numbers-requires c κs = search needs
 
 loop-holds : tie.Need-loop-holds Inv-loop μ-loop
 loop-holds c = search needs
@@ -46,9 +46,9 @@ cuts-spec =
     (tie.spec
     Inv-loop
     μ-loop
-    slice-aggregate-plain
-    plain-requires
-    empty-requires
+    slice-aggregate-seventeen
+    seventeen-requires
+    no-numbers-requires
     loop-holds
     slice-aggregate-compare
     compare-requires

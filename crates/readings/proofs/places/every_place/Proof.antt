@@ -1,29 +1,29 @@
 -- `readings::places::every_place` meets its contract.
-use borrow.Author.Needs.{needs}
 use Prim.Native.Nat.{_≤_, _-_}
+use borrow.Author.Needs.{needs}
 use Rattle.readings.proofs.places.every_place.Statement.{statement}
 use Rattle.readings.proofs.places.every_place.Tie as tie
 
 abbrev Inv-loop : tie.InvT-loop
-Inv-loop form t₀ p₀ t p = p ≤ 18
+Inv-loop of-job all₀ i₀ all i = i ≤ 864
 
 abbrev μ-loop : tie.MeasureT-loop
-μ-loop form t₀ p₀ t p = 18 - p
+μ-loop of-job all₀ i₀ all i = 864 - i
 
-empty-requires : tie.Need-empty-requires Inv-loop μ-loop
-empty-requires c κs = search needs
+no-numbers-requires : tie.Need-no-numbers-requires Inv-loop μ-loop
+no-numbers-requires c κs = search needs
 
 loop-holds : tie.Need-loop-holds Inv-loop μ-loop
 loop-holds c = search needs
 
-add-loop : tie.Need-add-loop Inv-loop μ-loop
-add-loop c = search needs
+cast-of-kind : tie.Need-cast-of-kind Inv-loop μ-loop
+cast-of-kind c = search needs
 
-every-kind-requires : tie.Need-every-kind-requires Inv-loop μ-loop
-every-kind-requires c κs = search needs
+of-kind-requires : tie.Need-of-kind-requires Inv-loop μ-loop
+of-kind-requires c κs = search needs
 
-add-p : tie.Need-add-p Inv-loop μ-loop
-add-p c = search needs
+add-i : tie.Need-add-i Inv-loop μ-loop
+add-i c = search needs
 
 loop-less : tie.Need-loop-less Inv-loop μ-loop
 loop-less c = search needs
@@ -40,11 +40,11 @@ every-place-spec =
     (tie.spec
     Inv-loop
     μ-loop
-    empty-requires
+    no-numbers-requires
     loop-holds
-    add-loop
-    every-kind-requires
-    add-p
+    cast-of-kind
+    of-kind-requires
+    add-i
     loop-less
     loop-again
     returns)

@@ -1,28 +1,37 @@
 -- `readings::random::random_rules` meets its contract.
+use Prim.Native.Nat.{_≤_, _-_}
 use lib.ListN.{length}
 use mathlib.Core.Path.{_≡_}
 use borrow.Author.Needs.{needs}
-use Prim.Native.Nat.{_≤_, _-_}
 use Rattle.readings.proofs.random.random_rules.Statement.{statement}
 use Rattle.readings.proofs.random.random_rules.Tie as tie
 
 abbrev Inv-loop : tie.InvT-loop
-Inv-loop words₀ from state₀ below count place₀ i₀ words state place i = (i ≤ count) × (length words ≡ length words₀)
+Inv-loop words₀ from state₀ many count place₀ i₀ words state place i = (i ≤ count) × (length words ≡ length words₀)
 
 abbrev μ-loop : tie.MeasureT-loop
-μ-loop words₀ from state₀ below count place₀ i₀ words state place i = count - i
-
-rules-below-requires : tie.Need-rules-below-requires Inv-loop μ-loop
-rules-below-requires c κs = search needs
+μ-loop words₀ from state₀ many count place₀ i₀ words state place i = count - i
 
 draw-requires : tie.Need-draw-requires Inv-loop μ-loop
 draw-requires c κs = search needs
 
-loop-holds : tie.Need-loop-holds Inv-loop μ-loop
-loop-holds c = search needs
+number-requires : tie.Need-number-requires Inv-loop μ-loop
+number-requires c κs = search needs
+
+mul-draw : tie.Need-mul-draw Inv-loop μ-loop
+mul-draw c = search needs
+
+add-draw : tie.Need-add-draw Inv-loop μ-loop
+add-draw c = search needs
 
 draw-requires-2 : tie.Need-draw-requires-2 Inv-loop μ-loop
 draw-requires-2 c κs = search needs
+
+loop-holds : tie.Need-loop-holds Inv-loop μ-loop
+loop-holds c = search needs
+
+draw-requires-3 : tie.Need-draw-requires-3 Inv-loop μ-loop
+draw-requires-3 c κs = search needs
 
 add-function : tie.Need-add-function Inv-loop μ-loop
 add-function c = search needs
@@ -57,10 +66,13 @@ random-rules-spec =
     (tie.spec
     Inv-loop
     μ-loop
-    rules-below-requires
     draw-requires
-    loop-holds
+    number-requires
+    mul-draw
+    add-draw
     draw-requires-2
+    loop-holds
+    draw-requires-3
     add-function
     random-word-requires
     put-requires

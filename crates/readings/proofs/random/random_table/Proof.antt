@@ -1,22 +1,19 @@
 -- `readings::random::random_table` meets its contract.
-use mathlib.Core.Path.{_≡_}
-use lib.ListN.{length}
-use borrow.Author.Needs.{needs}
 use Prim.Native.Nat.{_≤_, _-_}
+use lib.ListN.{length}
+use mathlib.Core.Path.{_≡_}
+use borrow.Author.Needs.{needs}
 use Rattle.readings.proofs.random.random_table.Statement.{statement}
 use Rattle.readings.proofs.random.random_table.Tie as tie
 
 abbrev Inv-loop : tie.InvT-loop
-Inv-loop words₀ from kind state₀ odds place₀ function₀ words state place function = (1 ≤ odds) × (function ≤ 28) × (length words ≡ length words₀)
+Inv-loop words₀ from kind state₀ odds place₀ function₀ words state place function = (function ≤ 28) × (length words ≡ length words₀)
 
 abbrev μ-loop : tie.MeasureT-loop
 μ-loop words₀ from kind state₀ odds place₀ function₀ words state place function = 28 - function
 
 draw-requires : tie.Need-draw-requires Inv-loop μ-loop
 draw-requires c κs = search needs
-
-add-odds : tie.Need-add-odds Inv-loop μ-loop
-add-odds c = search needs
 
 loop-holds : tie.Need-loop-holds Inv-loop μ-loop
 loop-holds c = search needs
@@ -46,7 +43,6 @@ random-table-spec =
     Inv-loop
     μ-loop
     draw-requires
-    add-odds
     loop-holds
     maybe-requires
     add-function

@@ -1,6 +1,6 @@
 -- `recipe::layout::laid_out` meets its contract.
 use borrow.Author.Needs.{needs}
-use Rattle.recipe.proofs.Faults.{scratch-layout, target-layout, no-source}
+use Rattle.recipe.proofs.Faults.{no-source, scratch-layout, target-layout}
 use Rattle.recipe.proofs.layout.laid_out.Statement.{statement}
 use Rattle.recipe.proofs.layout.laid_out.Tie as tie
 
@@ -13,8 +13,8 @@ is-function-requires c κs = search needs
 returns : tie.Need-returns
 returns c = search no-source
 
-target-of-requires : tie.Need-target-of-requires
-target-of-requires c κs = search needs
+from-scratch-requires : tie.Need-from-scratch-requires
+from-scratch-requires c κs = search needs
 
 scratch-laid-out-requires : tie.Need-scratch-laid-out-requires
 scratch-laid-out-requires c κs = search needs
@@ -38,7 +38,7 @@ laid-out-spec =
     source-of-requires
     is-function-requires
     returns
-    target-of-requires
+    from-scratch-requires
     scratch-laid-out-requires
     returns-2
     unpack-requires

@@ -11,10 +11,10 @@ is-logic-requires : tie.Need-is-logic-requires
 is-logic-requires c κs = search needs
 
 returns : tie.Need-returns
-returns c = search logic-source
+returns c = search other-source
 
 returns-2 : tie.Need-returns-2
-returns-2 c = search other-source
+returns-2 c = search logic-source
 
 pub scratch-laid-out-spec : {M : Type 1} → statement M
 scratch-laid-out-spec = tie.close (tie.spec source-of-requires is-logic-requires returns returns-2)

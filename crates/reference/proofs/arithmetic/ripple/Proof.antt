@@ -1,6 +1,6 @@
 -- `reference::arithmetic::ripple` meets its contract.
-use borrow.Author.Needs.{needs}
 use Prim.Native.Nat.{_≤_, _-_}
+use borrow.Author.Needs.{needs}
 use Rattle.reference.proofs.arithmetic.ripple.Statement.{statement}
 use Rattle.reference.proofs.arithmetic.ripple.Tie as tie
 
@@ -18,9 +18,6 @@ bit-requires c κs = search needs
 
 bit-requires-2 : tie.Need-bit-requires-2 Inv-loop μ-loop
 bit-requires-2 c κs = search needs
-
-full-adder-requires : tie.Need-full-adder-requires Inv-loop μ-loop
-full-adder-requires c κs = search needs
 
 with-bit-requires : tie.Need-with-bit-requires Inv-loop μ-loop
 with-bit-requires c κs = search needs
@@ -52,7 +49,6 @@ ripple-spec =
     loop-holds
     bit-requires
     bit-requires-2
-    full-adder-requires
     with-bit-requires
     add-place
     loop-less

@@ -22,29 +22,29 @@ shl-end c = search needs
 loop-holds : tie.Need-loop-holds Inv-loop μ-loop
 loop-holds c = search needs
 
-mul-digit : tie.Need-mul-digit Inv-loop μ-loop
-mul-digit c = search needs
+mul-number : tie.Need-mul-number Inv-loop μ-loop
+mul-number c = search needs
 
-cast-digit : tie.Need-cast-digit Inv-loop μ-loop
-cast-digit c = search needs
+cast-number : tie.Need-cast-number Inv-loop μ-loop
+cast-number c = search needs
 
-shr-digit : tie.Need-shr-digit Inv-loop μ-loop
-shr-digit c = search needs
+shr-number : tie.Need-shr-number Inv-loop μ-loop
+shr-number c = search needs
 
-digit-requires : tie.Need-digit-requires Inv-loop μ-loop
-digit-requires c κs = search needs
+number-requires : tie.Need-number-requires Inv-loop μ-loop
+number-requires c κs = search needs
 
 ones-requires : tie.Need-ones-requires Inv-loop μ-loop
 ones-requires c κs = search needs
 
-shr-agrees : tie.Need-shr-agrees Inv-loop μ-loop
-shr-agrees c = search needs
+shr-first-difference : tie.Need-shr-first-difference Inv-loop μ-loop
+shr-first-difference c = search needs
 
 ones-requires-2 : tie.Need-ones-requires-2 Inv-loop μ-loop
 ones-requires-2 c κs = search needs
 
-agrees-requires : tie.Need-agrees-requires Inv-loop μ-loop
-agrees-requires c κs = search needs
+first-difference-requires : tie.Need-first-difference-requires Inv-loop μ-loop
+first-difference-requires c κs = search needs
 
 returns : tie.Need-returns Inv-loop μ-loop
 returns c = search needs
@@ -71,14 +71,14 @@ agrees-at-all-spec =
     cast-end
     shl-end
     loop-holds
-    mul-digit
-    cast-digit
-    shr-digit
-    digit-requires
+    mul-number
+    cast-number
+    shr-number
+    number-requires
     ones-requires
-    shr-agrees
+    shr-first-difference
     ones-requires-2
-    agrees-requires
+    first-difference-requires
     returns
     add-i
     loop-less

@@ -1,32 +1,32 @@
 -- `verdicts::nine::together` meets its contract.
-use borrow.Author.Needs.{needs}
 use Prim.Native.Nat.{_≤_, _-_}
+use borrow.Author.Needs.{needs}
 use Rattle.verdicts.proofs.nine.together.Statement.{statement}
 use Rattle.verdicts.proofs.nine.together.Tie as tie
 
 abbrev Inv-loop : tie.InvT-loop
-Inv-loop all more tally others right₀ added k₀ right k = k ≤ 9
+Inv-loop all others tally other right₀ added k₀ right k = k ≤ 9
 
 abbrev μ-loop : tie.MeasureT-loop
-μ-loop all more tally others right₀ added k₀ right k = 9 - k
+μ-loop all others tally other right₀ added k₀ right k = 9 - k
 
 loop-holds : tie.Need-loop-holds Inv-loop μ-loop
 loop-holds c = search needs
 
-mul-plus : tie.Need-mul-plus Inv-loop μ-loop
-mul-plus c = search needs
+mul-wrapping-add-u64 : tie.Need-mul-wrapping-add-u64 Inv-loop μ-loop
+mul-wrapping-add-u64 c = search needs
 
-array-read-plus : tie.Need-array-read-plus Inv-loop μ-loop
-array-read-plus c = search needs
+array-read-wrapping-add-u64 : tie.Need-array-read-wrapping-add-u64 Inv-loop μ-loop
+array-read-wrapping-add-u64 c = search needs
 
-mul-plus-2 : tie.Need-mul-plus-2 Inv-loop μ-loop
-mul-plus-2 c = search needs
+mul-wrapping-add-u64-2 : tie.Need-mul-wrapping-add-u64-2 Inv-loop μ-loop
+mul-wrapping-add-u64-2 c = search needs
 
-array-read-plus-2 : tie.Need-array-read-plus-2 Inv-loop μ-loop
-array-read-plus-2 c = search needs
+array-read-wrapping-add-u64-2 : tie.Need-array-read-wrapping-add-u64-2 Inv-loop μ-loop
+array-read-wrapping-add-u64-2 c = search needs
 
-plus-requires : tie.Need-plus-requires Inv-loop μ-loop
-plus-requires c κs = search needs
+wrapping-add-u64-requires : tie.Need-wrapping-add-u64-requires Inv-loop μ-loop
+wrapping-add-u64-requires c κs = search needs
 
 mul-right : tie.Need-mul-right Inv-loop μ-loop
 mul-right c = search needs
@@ -43,23 +43,23 @@ loop-less c = search needs
 loop-again : tie.Need-loop-again Inv-loop μ-loop
 loop-again c = search needs
 
-plus-requires-2 : tie.Need-plus-requires-2 Inv-loop μ-loop
-plus-requires-2 c κs = search needs
+wrapping-add-u64-requires-2 : tie.Need-wrapping-add-u64-requires-2 Inv-loop μ-loop
+wrapping-add-u64-requires-2 c κs = search needs
 
-plus-requires-3 : tie.Need-plus-requires-3 Inv-loop μ-loop
-plus-requires-3 c κs = search needs
+wrapping-add-u64-requires-3 : tie.Need-wrapping-add-u64-requires-3 Inv-loop μ-loop
+wrapping-add-u64-requires-3 c κs = search needs
 
-plus-requires-4 : tie.Need-plus-requires-4 Inv-loop μ-loop
-plus-requires-4 c κs = search needs
+wrapping-add-u64-requires-4 : tie.Need-wrapping-add-u64-requires-4 Inv-loop μ-loop
+wrapping-add-u64-requires-4 c κs = search needs
 
-plus-requires-5 : tie.Need-plus-requires-5 Inv-loop μ-loop
-plus-requires-5 c κs = search needs
+wrapping-add-u64-requires-5 : tie.Need-wrapping-add-u64-requires-5 Inv-loop μ-loop
+wrapping-add-u64-requires-5 c κs = search needs
 
-plus-requires-6 : tie.Need-plus-requires-6 Inv-loop μ-loop
-plus-requires-6 c κs = search needs
+wrapping-add-u64-requires-6 : tie.Need-wrapping-add-u64-requires-6 Inv-loop μ-loop
+wrapping-add-u64-requires-6 c κs = search needs
 
-plus-requires-7 : tie.Need-plus-requires-7 Inv-loop μ-loop
-plus-requires-7 c κs = search needs
+wrapping-add-u64-requires-7 : tie.Need-wrapping-add-u64-requires-7 Inv-loop μ-loop
+wrapping-add-u64-requires-7 c κs = search needs
 
 returns : tie.Need-returns Inv-loop μ-loop
 returns c = search needs
@@ -71,20 +71,20 @@ together-spec =
     Inv-loop
     μ-loop
     loop-holds
-    mul-plus
-    array-read-plus
-    mul-plus-2
-    array-read-plus-2
-    plus-requires
+    mul-wrapping-add-u64
+    array-read-wrapping-add-u64
+    mul-wrapping-add-u64-2
+    array-read-wrapping-add-u64-2
+    wrapping-add-u64-requires
     mul-right
     array-write-right
     add-k
     loop-less
     loop-again
-    plus-requires-2
-    plus-requires-3
-    plus-requires-4
-    plus-requires-5
-    plus-requires-6
-    plus-requires-7
+    wrapping-add-u64-requires-2
+    wrapping-add-u64-requires-3
+    wrapping-add-u64-requires-4
+    wrapping-add-u64-requires-5
+    wrapping-add-u64-requires-6
+    wrapping-add-u64-requires-7
     returns)

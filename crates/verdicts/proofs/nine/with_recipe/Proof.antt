@@ -1,6 +1,6 @@
 -- `verdicts::nine::with_recipe` meets its contract.
-use borrow.Author.Needs.{needs}
 use Prim.Native.Nat.{_≤_, _-_}
+use borrow.Author.Needs.{needs}
 use Rattle.verdicts.proofs.nine.with_recipe.Statement.{statement}
 use Rattle.verdicts.proofs.nine.with_recipe.Tie as tie
 

@@ -1,6 +1,6 @@
 -- `verdicts::pairings::stored` meets its contract.
-use borrow.Author.Needs.{needs}
 use Prim.Native.Nat.{_≤_, _-_}
+use borrow.Author.Needs.{needs}
 use Rattle.verdicts.proofs.pairings.stored.Statement.{statement}
 use Rattle.verdicts.proofs.pairings.stored.Tie as tie
 

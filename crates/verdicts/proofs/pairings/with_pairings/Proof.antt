@@ -1,6 +1,6 @@
 -- `verdicts::pairings::with_pairings` meets its contract.
-use borrow.Author.Needs.{needs}
 use Prim.Native.Nat.{_≤_, _-_}
+use borrow.Author.Needs.{needs}
 use Rattle.verdicts.proofs.pairings.with_pairings.Statement.{statement}
 use Rattle.verdicts.proofs.pairings.with_pairings.Tie as tie
 

@@ -1,0 +1,79 @@
+// The bench of a job, with nothing bound, and the bench of zeros.
+use crate::Bench;
+use reader::Job;
+use reader::MOST_SOURCES;
+use reader::MOST_TARGETS;
+use soundness::NOTHING;
+use soundness::Tables;
+use words::Prices;
+ghost use mathlib.Core.Path.{_≡_};
+ghost use Prim.Native.Nat.{_≤_};
+ghost use lib.ListN.{length};
+ghost use Rattle.reader.specs.Job as J;
+ghost use Rattle.reader.specs.Limits.{mostSources, mostTargets};
+ghost use Rattle.bench.specs.Calls as C;
+
+// What a job of zeros would be.
+const NO_JOB: Job = Job {
+    width: 0,
+    prices: Prices {
+        inverter: 0,
+        gate: 0,
+        multiplexer: 0,
+    },
+    sources: 0,
+    targets: 0,
+    rules: 0,
+};
+
+// The bench of a job with these words in its tables, and nothing bound.
+fn empty_bench(job: Job, sources: [u32; MOST_SOURCES], targets: [u32; MOST_TARGETS]) -> Bench
+    ensures { λ r. ⌜ r ≡ C.emptyBench (C.tablesWith job sources targets) ⌝ }
+{
+    let prices = job.prices;
+    let tables = Tables {
+        width: job.width,
+        prices,
+        sources,
+        nsources: job.sources,
+        targets,
+        ntargets: job.targets,
+    };
+    let bound = [NOTHING; MOST_SOURCES];
+    Bench { tables, bound }
+}
+
+pub fn zeros() -> Bench
+    ensures { λ r. ⌜ r ≡ C.zeros ⌝ }
+{
+    empty_bench(NO_JOB, [0u32; MOST_SOURCES], [0u32; MOST_TARGETS])
+}
+
+// A table of these sources, with NOTHING past them.
+fn sources_table(words: &[u32]) -> [u32; MOST_SOURCES]
+    requires { ⌜ length (now words) ≤ mostSources ⌝ }
+    ensures { λ r. ⌜ r ≡ C.tableOf mostSources (now (words .entry)) ⌝ }
+{
+    let mut table = [NOTHING; MOST_SOURCES];
+    soundness::copy(words, &mut table, 0);
+    table
+}
+
+// The same of targets.
+fn targets_table(words: &[u32]) -> [u32; MOST_TARGETS]
+    requires { ⌜ length (now words) ≤ mostTargets ⌝ }
+    ensures { λ r. ⌜ r ≡ C.tableOf mostTargets (now (words .entry)) ⌝ }
+{
+    let mut table = [NOTHING; MOST_TARGETS];
+    soundness::copy(words, &mut table, 0);
+    table
+}
+
+pub fn opened(words: &[u32], job: Job) -> Bench
+    requires { ⌜ J.WellFormedJob (now words) job ⌝ }
+    ensures { λ r. ⌜ r ≡ C.opened (now (words .entry)) job ⌝ }
+{
+    let sources = sources_table(table::sources_of(words, job));
+    let targets = targets_table(table::targets_of(words, job));
+    empty_bench(job, sources, targets)
+}

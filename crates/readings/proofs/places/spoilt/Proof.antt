@@ -1,0 +1,34 @@
+-- `readings::places::spoilt` meets its contract.
+use Prim.Native.Nat.{_≤_, _-_}
+use borrow.Author.Needs.{needs}
+use Rattle.readings.proofs.places.spoilt.Statement.{statement}
+use Rattle.readings.proofs.places.spoilt.Tie as tie
+
+abbrev Inv-loop : tie.InvT-loop
+Inv-loop of-job from to number all₀ place₀ all place = 0 ≤ place
+
+abbrev μ-loop : tie.MeasureT-loop
+μ-loop of-job from to number all₀ place₀ all place = to - place
+
+loop-holds : tie.Need-loop-holds Inv-loop μ-loop
+loop-holds c = search needs
+
+spoilt-at-requires : tie.Need-spoilt-at-requires Inv-loop μ-loop
+spoilt-at-requires c κs = search needs
+
+add-place : tie.Need-add-place Inv-loop μ-loop
+add-place c = search needs
+
+loop-less : tie.Need-loop-less Inv-loop μ-loop
+loop-less c = search needs
+
+loop-again : tie.Need-loop-again Inv-loop μ-loop
+loop-again c = search needs
+
+returns : tie.Need-returns Inv-loop μ-loop
+returns c = search needs
+
+pub spoilt-spec : {M : Type 1} → statement M
+spoilt-spec =
+    tie.close
+    (tie.spec Inv-loop μ-loop loop-holds spoilt-at-requires add-place loop-less loop-again returns)

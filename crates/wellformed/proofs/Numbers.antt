@@ -1,0 +1,78 @@
+-- "1 first; then word by word, 2 to 6 in each": what reading refuses is refused with a number of 1 to 6.
+use mathlib.Core.Path.{_≡_, ap}
+use mathlib.Core.Bool.{true, not}
+use mathlib.Core.List.{List, [], _∷_}
+use Prim.Native.Nat.{ℕ, _+_, _≤_}
+use native.Mathlib.Omega.{arith}
+use lib.Dec.{eqb, ltb}
+use lib.ListN.{length}
+use borrow.Author.Tests.{eqb-false}
+use Rattle.words.specs.Field.{kindOf}
+use Rattle.words.specs.Kinds.{isRecipe}
+use Rattle.words.specs.Paper.{refusal}
+use Rattle.words.specs.declared.Refusal.{Refusal}
+use Rattle.words.proofs.Choices.{either}
+use Rattle.recipe.specs.Layout.{readsUndriven, showsOther}
+use Rattle.reader.specs.Limits.{mostJobWords}
+use Rattle.reader.specs.Sequence.{inSequence}
+use Rattle.reader.specs.Reading.{fits, rises, wordFault, nothing, after, reading}
+use Rattle.reader.specs.Job.{ended, jobOf}
+use Rattle.reader.specs.declared.sequence.File.{File}
+use Rattle.reader.specs.declared.sequence.File.the-variants.{AsJob}
+use Rattle.reader.specs.declared.sequence.State.{State}
+use Rattle.reader.specs.declared.step.Reading.{Reading}
+use Rattle.reader.specs.declared.step.Reading.the-variants.{Passed, Stopped}
+use Rattle.reader.specs.declared.JobRead.{JobRead}
+use Rattle.reader.specs.declared.JobRead.the-variants.{Refused}
+
+word-most : (file : File) (s : State) (w : ℕ) → wordFault file s w ≤ 6
+unfolding wordFault
+word-most file s w =
+    let P : ℕ → Type 0 = λ x. x ≤ 6 in
+    either P (not (inSequence file s (kindOf w))) (λ _. omega arith)
+    (λ _. either P (not (fits file w)) (λ _. omega arith)
+    (λ _. either P (not (rises s w)) (λ _. omega arith)
+    (λ _. either P (not (isRecipe (kindOf w))) (λ _. omega arith)
+    (λ _. either P (readsUndriven w) (λ _. omega arith)
+    (λ _. either P (showsOther w) (λ _. omega arith) (λ _. omega arith))))))
+
+module _ (r : Refusal) where
+  -- a number of document 01's list
+  abbrev Listed : Type 0
+  Listed = (1 ≤ r .number) × (r .number ≤ 6)
+
+  stopped-number : (file : File) (ws : List ℕ) (s : State) (place : ℕ) → reading file s place ws ≡ Stopped r → Listed
+  stopped-number file [] s place e = let z : _≡_ {A = ℕ} 0 1 = cc in absurd (omega arith)
+  stopped-number file (w ∷ ws) s place e =
+      either (λ (x : Reading). x ≡ Stopped r → Listed) (eqb (wordFault file s w) 0)
+      (λ _. stopped-number file ws (after s w) (place + 1))
+      (λ h u.
+      let q : refusal (wordFault file s w) place ≡ r = cc in
+      let z = ap (λ (x : Refusal). x .number) q in
+      let some = eqb-false (wordFault file s w) 0 h in
+      let most = word-most file s w in
+      (omega arith, omega arith))
+      e
+
+  pub job-number : (ws : List ℕ) → jobOf ws ≡ Refused r → Listed
+  unfolding jobOf
+  job-number ws =
+      let P : JobRead → Type 0 = λ x. x ≡ Refused r → Listed in
+      either P (ltb (length ws) 1) (λ _. numbered 1 0 (omega arith, omega arith))
+      (λ _. either P (ltb mostJobWords (length ws)) (λ _. numbered 1 0 (omega arith, omega arith))
+      (λ _. at-end (reading AsJob nothing 0 ws) (stopped-number AsJob ws nothing 0)))
+    where
+      numbered : (n i : ℕ) → (1 ≤ n) × (n ≤ 6) → Refused (refusal n i) ≡ Refused r → Listed
+      numbered n i h u =
+          let q : refusal n i ≡ r = cc in
+          let z = ap (λ (x : Refusal). x .number) q in
+          (omega (arith, h), omega (arith, h))
+
+      at-end : (x : Reading) → (x ≡ Stopped r → Listed) → ended ws x ≡ Refused r → Listed
+      at-end (Stopped x) h = λ u. let q : x ≡ r = cc in h (ap Stopped q)
+      at-end (Passed s) h =
+          either (λ (x : JobRead). x ≡ Refused r → Listed) (ltb (s .sources) 1) (numbered-2 (length ws))
+          (λ _ u. let z : _≡_ {A = ℕ} 0 1 = cc in absurd (omega arith))
+        where
+          numbered-2 : (i : ℕ) → ltb (s .sources) 1 ≡ true → Refused (refusal 2 i) ≡ Refused r → Listed
+          numbered-2 i _ u = numbered 2 i (omega arith, omega arith) u
