@@ -13,7 +13,7 @@ use Rattle.alu.specs.Bits.{num, bit, word}
 use Rattle.alu.specs.Wiring.{carried}
 use Rattle.alu.specs.declared.Ports.{Ports}
 use Rattle.alu.proofs.Words.{pow2, word-lt, word-ext, word-bits, same, same-word, word-same, top-word, word-not, word-zeros}
-use Rattle.binding.specs.Binding.{outputsShow, sideShows, shows, shownBit, shownWord, comparison}
+use Rattle.binding.specs.Binding.{outputsShow, sideShows, shows, shownBit, shownWord, shownComparison}
 use Rattle.binding.specs.Right.{Agrees}
 use Rattle.binding.specs.declared.Side.{Side}
 use Rattle.binding.specs.declared.Recipe.{Recipe}
@@ -111,7 +111,7 @@ module _ (s : Side) (t : Recipe) (f g : ℕ → Bool) (c : Bool) where
         o0 = word (suc k) (λ i. shownBit (t .outputs .main) (bits (t .target) i));
         ocout = shownBit (t .outputs .cout) (sideCarry (t .target) (side (t .target) k) (f k) (g k));
         ovf = shownBit (t .outputs .ovf) (sideOverflow (t .target) (side (t .target) k) (f k) (g k));
-        o1 = comparison (t .outputs .code) (sideOrder (t .target) (side (t .target) k) (f k) (g k)) (anys (bits (t .target)) (suc k)) (alls (bits (t .target)) (suc k)) (bits (t .target) k) (sideOverflow (t .target) (side (t .target) k) (f k) (g k));
+        o1 = shownComparison (t .outputs .code) (sideOrder (t .target) (side (t .target) k) (f k) (g k)) (anys (bits (t .target)) (suc k)) (alls (bits (t .target)) (suc k)) (bits (t .target) k) (sideOverflow (t .target) (side (t .target) k) (f k) (g k));
       }
   unfolding outputsShow
   recipe-word k =
@@ -120,7 +120,7 @@ module _ (s : Side) (t : Recipe) (f g : ℕ → Bool) (c : Bool) where
         o0 = shown-bits (t .outputs .main) (suc k) (bits (t .target)) i;
         ocout = shownBit (t .outputs .cout) (sideCarry (t .target) (side (t .target) k) (f k) (g k));
         ovf = shownBit (t .outputs .ovf) (sideOverflow (t .target) (side (t .target) k) (f k) (g k));
-        o1 = comparison (t .outputs .code) (sideOrder (t .target) (side (t .target) k) (f k) (g k)) (any-word (suc k) (bits (t .target)) i) (all-word (suc k) (bits (t .target)) i) (top-word k (bits (t .target)) i) (sideOverflow (t .target) (side (t .target) k) (f k) (g k));
+        o1 = shownComparison (t .outputs .code) (sideOrder (t .target) (side (t .target) k) (f k) (g k)) (any-word (suc k) (bits (t .target)) i) (all-word (suc k) (bits (t .target)) i) (top-word k (bits (t .target)) i) (sideOverflow (t .target) (side (t .target) k) (f k) (g k));
       })
 
   mainT-is : (i : ℕ) → mainT i ≡ shownBit (t .outputs .main) (bits (t .target) i)
@@ -165,7 +165,7 @@ module _ (s : Side) (t : Recipe) (f g : ℕ → Bool) (c : Bool) where
       (shownBit (t .outputs .main) (bits (t .target) k)) (bits s k)
       (shownBit (t .outputs .cout) (sideCarry (t .target) (side (t .target) k) (f k) (g k))) (sideCarry s (side s k) (f k) (g k))
       (shownBit (t .outputs .ovf) (sideOverflow (t .target) (side (t .target) k) (f k) (g k))) (sideOverflow s (side s k) (f k) (g k))
-      (comparison (t .outputs .code) (sideOrder (t .target) (side (t .target) k) (f k) (g k)) (anys (bits (t .target)) (suc k)) (alls (bits (t .target)) (suc k)) (bits (t .target) k) (sideOverflow (t .target) (side (t .target) k) (f k) (g k)))
+      (shownComparison (t .outputs .code) (sideOrder (t .target) (side (t .target) k) (f k) (g k)) (anys (bits (t .target)) (suc k)) (alls (bits (t .target)) (suc k)) (bits (t .target) k) (sideOverflow (t .target) (side (t .target) k) (f k) (g k)))
       (sideOrder s (side s k) (f k) (g k))
       (subst (λ (a : State). last s t a (f k) (g k) ≡ true) (stateAt-is k) (m .1)) in
       let w : word k (λ i. shownBit (t .outputs .main) (bits (t .target) i)) ≡ word k (bits s) =

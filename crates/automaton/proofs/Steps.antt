@@ -1,7 +1,7 @@
 -- What the machine's code answers, from what it asked of the sides.
 use mathlib.Core.Path.{_≡_, ap, ap₂, _∙_}
 use mathlib.Core.Bool.{Bool, true, false, _&&_, _||_, Bool·beq}
-use Rattle.binding.specs.Binding.{shownBit, comparison}
+use Rattle.binding.specs.Binding.{shownBit, shownComparison}
 use Rattle.binding.specs.declared.Side.{Side}
 use Rattle.binding.specs.declared.Outputs.{Outputs}
 use Rattle.binding.specs.declared.Recipe.{Recipe}
@@ -27,7 +27,7 @@ module _ (o : Outputs) (p q : Cell) where
   pub last-ports : (any all m c cc w wc d dc : Bool) → m ≡ alikeBy o p q
       → c ≡ shownBit (o .cout) (q .carry) → cc ≡ Bool·beq c (p .carry)
       → w ≡ shownBit (o .ovf) (q .overflow) → wc ≡ Bool·beq w (p .overflow)
-      → d ≡ comparison (o .code) (q .order) (any || q .bit) (all && q .bit) (q .bit) (q .overflow) → dc ≡ Bool·beq d (p .order)
+      → d ≡ shownComparison (o .code) (q .order) (any || q .bit) (all && q .bit) (q .bit) (q .overflow) → dc ≡ Bool·beq d (p .order)
       → m && (cc && (wc && dc)) ≡ lastBy o p q any all
   last-ports any all m c cc w wc d dc em ec ecc ew ewc ed edc =
       ap₂ _&&_ em

@@ -3,7 +3,7 @@
 use Prim.Native.Nat.{ℕ, zero, suc, _/_, _%_}
 use mathlib.Core.Bool.{Bool, true, false, _&&_, _||_, Bool·beq}
 use lib.Dec.{eqb}
-use Rattle.binding.specs.Binding.{shownBit, comparison}
+use Rattle.binding.specs.Binding.{shownBit, shownComparison}
 use Rattle.binding.specs.declared.Side.{Side}
 use Rattle.binding.specs.declared.Outputs.{Outputs}
 use Rattle.binding.specs.declared.Recipe.{Recipe}
@@ -40,7 +40,7 @@ lastBy o p q any all =
     alikeBy o p q
     && (Bool·beq (shownBit (o .cout) (q .carry)) (p .carry)
     && (Bool·beq (shownBit (o .ovf) (q .overflow)) (p .overflow)
-    && Bool·beq (comparison (o .code) (q .order) (any || q .bit) (all && q .bit) (q .bit) (q .overflow)) (p .order)))
+    && Bool·beq (shownComparison (o .code) (q .order) (any || q .bit) (all && q .bit) (q .bit) (q .overflow)) (p .order)))
 
 -- ---- from a state
 

@@ -87,7 +87,7 @@ pub fn last(outputs: Outputs, p: Cell, q: Cell, any: bool, all: bool) -> bool
     let main = alike(outputs, p, q);
     let cout = same_bit(binding::shown_bit(outputs.cout, q.carry), p.carry);
     let ovf = same_bit(binding::shown_bit(outputs.ovf, q.overflow), p.overflow);
-    let code = binding::comparison(
+    let code = binding::shown_comparison(
         outputs.code,
         q.order,
         any | q.bit,

@@ -26,7 +26,7 @@ use Rattle.writer.specs.declared.Written.{Written}
 use Rattle.writer.specs.declared.Written.the-variants as written
 use Rattle.soundness.specs.Sound.{sourcesOn, targetsOn, tableWords, filled, empty, entrySound, boundSound, holds}
 use Rattle.soundness.proofs.Soundness.{sound-holds, sound-sources, sound-width}
-use Rattle.bench.specs.Calls.{soundBench, bindingsOn, gives, glueOn, firstEmpty, unboundOn, afterWriting, mappingOn, finishOf, lentOf}
+use Rattle.bench.specs.Calls.{soundBench, bindingsOn, gives, glueOn, firstEmpty, unboundOn, finishWritten, mappingOn, finishOf, lentAfterFinish}
 use Rattle.bench.specs.Shape.{Shaped}
 use Rattle.bench.specs.declared.Bench.{Bench}
 use Rattle.bench.specs.declared.Answer.{Answer}
@@ -123,14 +123,14 @@ module _ (b : Bench) (h : Shaped b) (s : soundBench b ≡ true) where
   -- ---- the writing
 
   module _ (lent : List ℕ) (r : Written) (er : r ≡ writtenOf (length (take (b .tables .nsources) (b .bound))) lent) where
-    answer-written : afterWriting r ≡ afterWriting (writtenOf (b .tables .nsources) lent)
-    answer-written = ap afterWriting er ∙ ap (λ (x : ℕ). afterWriting (writtenOf x lent)) (sym bound-taken)
+    answer-written : finishWritten r ≡ finishWritten (writtenOf (b .tables .nsources) lent)
+    answer-written = ap finishWritten er ∙ ap (λ (x : ℕ). finishWritten (writtenOf x lent)) (sym bound-taken)
 
-    pub words-written : (n : ℕ) → r ≡ written.Words n → Mapping n ≡ afterWriting (writtenOf (b .tables .nsources) lent)
-    words-written n e = ap afterWriting (sym e) ∙ answer-written
+    pub words-written : (n : ℕ) → r ≡ written.Words n → Mapping n ≡ finishWritten (writtenOf (b .tables .nsources) lent)
+    words-written n e = ap finishWritten (sym e) ∙ answer-written
 
-    pub words-lacking : (n : Refusal) → r ≡ written.Refused n → Refused n ≡ afterWriting (writtenOf (b .tables .nsources) lent)
-    words-lacking n e = ap afterWriting (sym e) ∙ answer-written
+    pub words-lacking : (n : Refusal) → r ≡ written.Refused n → Refused n ≡ finishWritten (writtenOf (b .tables .nsources) lent)
+    words-lacking n e = ap finishWritten (sym e) ∙ answer-written
 
   pub mapping-laid : unboundOn b ≡ 0 → (g : ℕ) → (g ≡ glueOn b) × (g < 2 ^ 28) → (lent m : List ℕ)
       → m ≡ lentAfter (mappingWords (b .tables .width) (take (b .tables .nsources) (b .bound)) g) lent → m ≡ lentAfter (mappingOn b) lent
@@ -143,8 +143,8 @@ module _ (b : Bench) (lent : List ℕ) (p : Bool) (ep : p ≡ soundBench b) wher
   unfolding finishOf
   finish-unsound h = rw (sym ep ∙ not-true p h) refl
 
-  pub unsound-kept : not p ≡ true → lent ≡ lentOf b lent
-  unfolding lentOf
+  pub unsound-kept : not p ≡ true → lent ≡ lentAfterFinish b lent
+  unfolding lentAfterFinish
   unsound-kept h = rw (sym ep ∙ not-true p h) refl
 
   module _ (hp : not p ≡ false) (u : ℕ) (eu : u ≡ unboundOn b) where
@@ -154,19 +154,19 @@ module _ (b : Bench) (lent : List ℕ) (p : Bool) (ep : p ≡ soundBench b) wher
         rw (sym ep ∙ not-false p hp)
         (rw (ne-eqb (unboundOn b) 0 (λ e. h (eu ∙ e))) (ap (λ (x : ℕ). gives b (Refused (refusal 22 x))) eu))
 
-    pub unbound-kept : (u ≡ 0 → ⊥) → lent ≡ lentOf b lent
-    unfolding lentOf
+    pub unbound-kept : (u ≡ 0 → ⊥) → lent ≡ lentAfterFinish b lent
+    unfolding lentAfterFinish
     unbound-kept h = rw (sym ep ∙ not-false p hp) (rw (ne-eqb (unboundOn b) 0 (λ e. h (eu ∙ e))) refl)
 
     module _ (hu : u ≡ 0) where
       pub all-sources-bound : unboundOn b ≡ 0
       all-sources-bound = sym eu ∙ hu
 
-      pub finish-written : (a : Answer) → a ≡ afterWriting (writtenOf (b .tables .nsources) lent) → gives b a ≡ finishOf b lent
+      pub finish-written : (a : Answer) → a ≡ finishWritten (writtenOf (b .tables .nsources) lent) → gives b a ≡ finishOf b lent
       unfolding finishOf
       finish-written a e =
           rw (sym ep ∙ not-false p hp) (rw (eq-eqb (unboundOn b) 0 all-sources-bound) (ap (gives b) e))
 
-      pub lent-written : (m : List ℕ) → m ≡ lentAfter (mappingOn b) lent → m ≡ lentOf b lent
-      unfolding lentOf
+      pub lent-written : (m : List ℕ) → m ≡ lentAfter (mappingOn b) lent → m ≡ lentAfterFinish b lent
+      unfolding lentAfterFinish
       lent-written m e = rw (sym ep ∙ not-false p hp) (rw (eq-eqb (unboundOn b) 0 all-sources-bound) e)

@@ -12,7 +12,7 @@ use Rattle.reader.specs.declared.JobRead.{JobRead}
 use Rattle.reader.specs.declared.JobRead.the-variants as read
 use Rattle.wellformed.proofs.JobWords.{well-formed}
 use Rattle.table.specs.Parts.{sourcesOf, targetsOf}
-use Rattle.bench.specs.Calls.{gives, tableOf, tablesWith, emptyBench, opened, zeros, openOf, openFor}
+use Rattle.bench.specs.Calls.{gives, tableOf, tablesWith, emptyBench, opened, benchOfZeros, openOf, openFor}
 use Rattle.bench.specs.declared.Bench.{Bench}
 use Rattle.bench.specs.declared.Answer.the-variants.{Done, Refused}
 
@@ -36,7 +36,7 @@ module _ (ws : List ℕ) (r : JobRead) (er : r ≡ jobOf ws) where
   pub as-read : (job : Job) → r ≡ read.Accepted job → WellFormedJob ws job
   as-read job e = sym er ∙ e
 
-  pub open-refused : (x : Refusal) (b : Bench) → r ≡ read.Refused x → b ≡ zeros → gives b (Refused x) ≡ openOf ws
+  pub open-refused : (x : Refusal) (b : Bench) → r ≡ read.Refused x → b ≡ benchOfZeros → gives b (Refused x) ≡ openOf ws
   unfolding openOf
   open-refused x b e eb = ap (λ (y : Bench). gives y (Refused x)) eb ∙ ap (openFor ws) (sym e ∙ er)
 

@@ -91,11 +91,11 @@ noJob =
       rules = 0;
     }
 
-abbrev pub zeros : Bench
-zeros = emptyBench (tablesWith noJob (replicate mostSources 0) (replicate mostTargets 0))
+abbrev pub benchOfZeros : Bench
+benchOfZeros = emptyBench (tablesWith noJob (replicate mostSources 0) (replicate mostTargets 0))
 
 abbrev pub openFor : List ℕ → JobRead → After
-openFor ws (read.Refused r) = gives zeros (Refused r)
+openFor ws (read.Refused r) = gives benchOfZeros (Refused r)
 openFor ws (read.Accepted job) = gives (opened ws job) Done
 
 unfoldable pub openOf : List ℕ → After
@@ -156,12 +156,12 @@ WrongAt c n (Refused r) = ⊥
 WrongAt c n (Wrong v) = Differs c n v
 
 -- what the ruling on a bind of a bench makes of an answer; "Lent words and the bench stay unchanged", of refusal 10 too
-abbrev pub Answers : Bench → Ruling After → After → Type 0
-Answers b (Gives a) r = r ≡ a
-Answers b (Names c n) r = (r .bench ≡ b) × WrongAt c n (r .answer)
+abbrev pub BindRuled : Bench → Ruling After → After → Type 0
+BindRuled b (Gives a) r = r ≡ a
+BindRuled b (Names c n) r = (r .bench ≡ b) × WrongAt c n (r .answer)
 
 abbrev pub Binds : Bench → ℕ → After → Type 0
-Binds b w r = Answers b (bindOf b w) r
+Binds b w r = BindRuled b (bindOf b w) r
 
 -- ---- price: 20, then the count
 
@@ -183,9 +183,9 @@ abbrev pub unboundOn : Bench → ℕ
 unboundOn b = firstEmpty (sourcesOn (b .tables)) (b .bound)
 
 -- "Lent words fewer than sources + 2; place: words needed."
-abbrev pub afterWriting : Written → Answer
-afterWriting (written.Refused r) = Refused r
-afterWriting (written.Words n) = Mapping n
+abbrev pub finishWritten : Written → Answer
+finishWritten (written.Refused r) = Refused r
+finishWritten (written.Words n) = Mapping n
 
 -- "header, 0 to 27 bindings, glue count"
 abbrev pub mappingOn : Bench → List ℕ
@@ -196,11 +196,11 @@ finishOf b lent =
     gives b
     (if not (soundBench b) then Refused (refusal 20 0)
     else if not (eqb (unboundOn b) noFunction) then Refused (refusal 22 (sourcePlace (unboundOn b)))
-    else afterWriting (writtenOf (b .tables .nsources) lent))
+    else finishWritten (writtenOf (b .tables .nsources) lent))
 
 -- the lent words afterwards
-unfoldable pub lentOf : Bench → List ℕ → List ℕ
-lentOf b lent =
+unfoldable pub lentAfterFinish : Bench → List ℕ → List ℕ
+lentAfterFinish b lent =
     if not (soundBench b) then lent
     else if not (eqb (unboundOn b) noFunction) then lent
     else lentAfter (mappingOn b) lent

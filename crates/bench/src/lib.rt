@@ -64,7 +64,7 @@ fn unbound_on(bench: Bench) -> u32
 // Writes the mapping of a bench whose sources are all bound: refusal 23.
 fn write(bench: Bench, lent: &mut [u32]) -> Answer
     requires { ⌜ (C.soundBench bench ≡ true) × (C.unboundOn bench ≡ 0) ⌝ }
-    ensures answer { λ r. ⌜ r ≡ C.afterWriting (W.writtenOf (bench .tables .nsources) (now (lent .entry))) ⌝ }
+    ensures answer { λ r. ⌜ r ≡ C.finishWritten (W.writtenOf (bench .tables .nsources) (now (lent .entry))) ⌝ }
     ensures written { λ r. ⌜ now (lent .exit) ≡ W.lentAfter (C.mappingOn bench) (now (lent .entry)) ⌝ }
 {
     let tables = bench.tables;
@@ -86,7 +86,7 @@ impl Bench {
         let read = reader::read_job(words);
         match read {
             JobRead::Refused(refusal) => After {
-                bench: opening::zeros(),
+                bench: opening::bench_of_zeros(),
                 answer: Answer::Refused(refusal),
             },
             JobRead::Accepted(job) => After {
@@ -149,7 +149,7 @@ impl Bench {
     // Writes the mapping into lent words: refusals 20, 22, 23.
     pub fn finish(mut self, lent: &mut [u32]) -> After
         ensures answer { λ r. ⌜ r ≡ C.finishOf self (now (lent .entry)) ⌝ }
-        ensures written { λ r. ⌜ now (lent .exit) ≡ C.lentOf self (now (lent .entry)) ⌝ }
+        ensures written { λ r. ⌜ now (lent .exit) ≡ C.lentAfterFinish self (now (lent .entry)) ⌝ }
     {
         if !faults::is_sound(self) {
             return After {

@@ -43,8 +43,8 @@ fn empty_bench(job: Job, sources: [u32; MOST_SOURCES], targets: [u32; MOST_TARGE
     Bench { tables, bound }
 }
 
-pub fn zeros() -> Bench
-    ensures { λ r. ⌜ r ≡ C.zeros ⌝ }
+pub fn bench_of_zeros() -> Bench
+    ensures { λ r. ⌜ r ≡ C.benchOfZeros ⌝ }
 {
     empty_bench(NO_JOB, [0u32; MOST_SOURCES], [0u32; MOST_TARGETS])
 }

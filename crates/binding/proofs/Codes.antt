@@ -8,7 +8,7 @@ use lib.ListN.{getD, List·getD-eq-default}
 use Rattle.alu.specs.Bits.{exor, top}
 use Rattle.alu.specs.Wiring.{complement}
 use Rattle.alu.specs.declared.Ports.{Ports}
-use Rattle.binding.specs.Binding.{shownBit, shownWord, comparison, outputsShow}
+use Rattle.binding.specs.Binding.{shownBit, shownWord, shownComparison, outputsShow}
 use Rattle.binding.specs.declared.Outputs.{Outputs}
 
 pub bit-past : (code : ℕ) (b : Bool) → 3 ≤ code → false ≡ shownBit code b
@@ -27,7 +27,7 @@ codes to1 gor gand s x =
     ∷ x ∷ not x ∷ (x || not gor) ∷ not (x || not gor) ∷ []
 
 module _ (code : ℕ) (to1 gor gand s tovf : Bool) where
-  pub code-past : 16 ≤ code → false ≡ comparison code to1 gor gand s tovf
+  pub code-past : 16 ≤ code → false ≡ shownComparison code to1 gor gand s tovf
   unfolding codes
   code-past h = sym (List·getD-eq-default (codes to1 gor gand s (exor s tovf)) false h)
 
@@ -35,14 +35,14 @@ module _ (code : ℕ) (to1 gor gand s tovf : Bool) where
       → getD
       (false ∷ to1 ∷ not to1 ∷ gor ∷ not gor ∷ gand ∷ not gand ∷ s ∷ not s ∷ (s || not gor) ∷ (not s && gor) ∷ (not s && not gor)
       ∷ x ∷ not x ∷ (x || not gor) ∷ not (x || not gor) ∷ []) code false
-      ≡ comparison code to1 gor gand s tovf
+      ≡ shownComparison code to1 gor gand s tovf
   unfolding codes
   code-table x e = ap (λ (z : Bool). getD (codes to1 gor gand s z) code false) e
 
 -- the ports from what was looked up
 pub output-parts : (r : Outputs) (n : ℕ) (t : Ports) (o m : ℕ) (c v s d : Bool)
     → o ≡ shownWord n (r .main) (t .o0) → c ≡ shownBit (r .cout) (t .ocout) → v ≡ shownBit (r .ovf) (t .ovf) → m ≡ 2 ^ n - 1
-    → s ≡ top n (t .o0) → d ≡ comparison (r .code) (t .o1) (not (eqb (t .o0) 0)) (eqb (t .o0) m) s (t .ovf)
+    → s ≡ top n (t .o0) → d ≡ shownComparison (r .code) (t .o1) (not (eqb (t .o0) 0)) (eqb (t .o0) m) s (t .ovf)
     → _≡_ {A = Ports} (record { o0 = o; ocout = c; ovf = v; o1 = d }) (outputsShow r n t)
 unfolding outputsShow
 output-parts r n t o m c v s d eo ec ev em es ed =
@@ -50,5 +50,5 @@ output-parts r n t o m c v s d eo ec ev em es ed =
       o0 = eo i;
       ocout = ec i;
       ovf = ev i;
-      o1 = (ed ∙ (λ j. comparison (r .code) (t .o1) (not (eqb (t .o0) 0)) (eqb (t .o0) (em j)) (es j) (t .ovf))) i;
+      o1 = (ed ∙ (λ j. shownComparison (r .code) (t .o1) (not (eqb (t .o0) 0)) (eqb (t .o0) (em j)) (es j) (t .ovf))) i;
     }

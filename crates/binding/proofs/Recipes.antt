@@ -10,7 +10,7 @@ use Rattle.alu.specs.declared.Kind.{Kind}
 use Rattle.alu.proofs.Shown.{ports-lt}
 use Rattle.recipe.specs.Fields.{sourceOf, fromScratch, vectorOf, fieldsOf}
 use Rattle.recipe.specs.declared.Fields.{Fields}
-use Rattle.binding.specs.Binding.{plain, sideShows, outputsShow, scratch, fromTarget, recipeOf, shows}
+use Rattle.binding.specs.Binding.{plain, sideShows, outputsShow, fromVector, fromTarget, recipeOf, shows}
 use Rattle.binding.specs.declared.Side.{Side}
 use Rattle.binding.specs.declared.Outputs.{Outputs}
 use Rattle.binding.specs.declared.Recipe.{Recipe}
@@ -39,9 +39,9 @@ target-recipe r K e =
     }
 
 module _ (w : ℕ) (t : Bool) (et : t ≡ fromScratch w) where
-  pub is-scratch : (v : ℕ) (r : Recipe) → t ≡ true → v ≡ vectorOf w → r ≡ scratch v → r ≡ recipeOf w
+  pub is-scratch : (v : ℕ) (r : Recipe) → t ≡ true → v ≡ vectorOf w → r ≡ fromVector v → r ≡ recipeOf w
   unfolding recipeOf
-  is-scratch v r z ev er = rw (sym et ∙ z) (er ∙ ap scratch ev)
+  is-scratch v r z ev er = rw (sym et ∙ z) (er ∙ ap fromVector ev)
 
   pub is-target : (u : Fields) (r : Recipe) → t ≡ false → u ≡ fieldsOf w → r ≡ fromTarget u → r ≡ recipeOf w
   unfolding recipeOf

@@ -39,8 +39,8 @@ abbrev pub shownWord : ℕ → ℕ → ℕ → ℕ
 shownWord n code a = getD (0 ∷ a ∷ complement n a ∷ []) code 0
 
 -- the comparison codes, from TO1, GOR and GAND of TO0, S and TOVF. "NOT S is formed before AND or OR."
-abbrev pub comparison : ℕ → Bool → Bool → Bool → Bool → Bool → Bool
-comparison code to1 gor gand s tovf =
+abbrev pub shownComparison : ℕ → Bool → Bool → Bool → Bool → Bool → Bool
+shownComparison code to1 gor gand s tovf =
     getD
     (false  -- 0 none
     ∷ to1  -- 1 TO1
@@ -70,14 +70,14 @@ outputsShow r n t =
       ocout = shownBit (r .cout) (t .ocout);
       ovf = shownBit (r .ovf) (t .ovf);
       o1 =
-          comparison (r .code) (t .o1) (not (eqb (t .o0) 0)) (eqb (t .o0) (2 ^ n - 1)) (top n (t .o0)) (t .ovf);
+          shownComparison (r .code) (t .o1) (not (eqb (t .o0) 0)) (eqb (t .o0) (2 ^ n - 1)) (top n (t .o0)) (t .ovf);
     }
 
 -- ---- a recipe
 
 -- "From scratch, each bit of O0 is the vector's bit for the bits of left and right at that place; the other ports show 0."
-abbrev pub scratch : ℕ → Recipe
-scratch v =
+abbrev pub fromVector : ℕ → Recipe
+fromVector v =
     record {
       target = record { kind = Logic v; left = I0; right = I1; carry = ICIN };
       outputs = record { main = 1; cout = 0; ovf = 0; code = 0 };
@@ -91,7 +91,7 @@ fromTarget r =
     }
 
 unfoldable pub recipeOf : ℕ → Recipe
-recipeOf w = if fromScratch w then scratch (vectorOf w) else fromTarget (fieldsOf w)
+recipeOf w = if fromScratch w then fromVector (vectorOf w) else fromTarget (fieldsOf w)
 
 abbrev pub shows : Recipe → ℕ → ℕ → ℕ → Bool → Ports
 shows r n left right carry = outputsShow (r .outputs) n (sideShows (r .target) n left right carry)

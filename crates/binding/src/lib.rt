@@ -3,10 +3,10 @@ mod output;
 
 use alu::Kind;
 use alu::Ports;
-pub use output::comparison;
 pub use output::exor;
 use output::outputs_show;
 pub use output::shown_bit;
+pub use output::shown_comparison;
 ghost use mathlib.Core.Path.{_≡_};
 ghost use Prim.Native.Nat.{_^_, _<_};
 ghost use Rattle.alu.specs.Asked as Q;
@@ -54,8 +54,8 @@ pub fn plain(function: u32) -> Side
 }
 
 // A vector on the operands themselves, whose output is the main output.
-fn scratch(vector: u32) -> Recipe
-    ensures { λ r. ⌜ r ≡ B.scratch vector ⌝ }
+fn from_vector(vector: u32) -> Recipe
+    ensures { λ r. ⌜ r ≡ B.fromVector vector ⌝ }
 {
     Recipe {
         target: Side {
@@ -97,7 +97,7 @@ pub fn recipe_of(word: u32) -> Recipe
     ensures { λ r. ⌜ r ≡ B.recipeOf word ⌝ }
 {
     if recipe::from_scratch(word) {
-        return scratch(recipe::vector_of(word));
+        return from_vector(recipe::vector_of(word));
     }
     from_target(recipe::unpack(word))
 }

@@ -38,8 +38,8 @@ pub fn exor(x: bool, y: bool) -> bool
 }
 
 // A comparison code on TO1, GOR and GAND of TO0, S and TOVF.
-pub fn comparison(code: u32, to1: bool, gor: bool, gand: bool, s: bool, tovf: bool) -> bool
-    ensures { λ r. ⌜ r ≡ B.comparison code to1 gor gand s tovf ⌝ }
+pub fn shown_comparison(code: u32, to1: bool, gor: bool, gand: bool, s: bool, tovf: bool) -> bool
+    ensures { λ r. ⌜ r ≡ B.shownComparison code to1 gor gand s tovf ⌝ }
 {
     if 16 <= code {
         return false;
@@ -77,7 +77,7 @@ pub fn outputs_show(outputs: Outputs, n: u32, target: Ports) -> Ports
         o0: shown_word(n, outputs.main, to0),
         ocout: shown_bit(outputs.cout, target.ocout),
         ovf: shown_bit(outputs.ovf, tovf),
-        o1: comparison(
+        o1: shown_comparison(
             outputs.code,
             target.o1,
             to0 != 0,

@@ -29,7 +29,7 @@ fn cut_mapping(job: &[u32], end: usize) -> Checked
 
 // The answer to two files: the words that were kept of each, and what was read.
 fn check_files(job: &[u32], first: Input, mapping: &[u32], second: Input) -> Checked
-    ensures { λ r. ⌜ C.Answers (F.filesRuling (now (job .entry)) (first .cut) (first .whole) (now (mapping .entry)) (second .cut) (second .whole)) r ⌝ }
+    ensures { λ r. ⌜ C.CheckRuled (F.filesRuling (now (job .entry)) (first .cut) (first .whole) (now (mapping .entry)) (second .cut) (second .whole)) r ⌝ }
 {
     if first.cut {
         return Checked::JobRefused(Refusal {

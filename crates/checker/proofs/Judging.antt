@@ -19,7 +19,8 @@ use Rattle.verdict.specs.declared.Verdict.the-variants as verdict
 use Rattle.verdict.proofs.Verdicting.{right-says, wrong-says}
 use Rattle.table.specs.Parts.{Terms}
 use Rattle.table.specs.Table.{claimIn}
-use Rattle.checker.specs.Check.{Answers, binds, firstUnbound, unlessWrong, SaysOfAll}
+use Rattle.checker.specs.Check.{CheckRuled, binds, firstUnbound, unlessWrong}
+use Rattle.checker.specs.FirstWrong.{SaysOfAll}
 use Rattle.checker.specs.declared.Checked.{Checked}
 use Rattle.checker.specs.declared.Checked.the-variants.{Accepted, Wrong}
 
@@ -64,7 +65,7 @@ module _ (ss ws : List ℕ) (i : ℕ) (e : firstUnbound (drop i ss) ws ≡ first
 module _ (t : Terms) (ws : List ℕ) (i : ℕ) (e : unlessWrong t (drop i ws) (Gives Accepted) ≡ unlessWrong t ws (Gives Accepted)) where
   pub all-right : length ws ≤ i → SaysOfAll t ws verdict.Right
   unfolding unlessWrong
-  all-right h = subst (λ (x : Ruling Checked). Answers x Accepted) (rw (drop-of-length-le ws h) at e) refl
+  all-right h = subst (λ (x : Ruling Checked). CheckRuled x Accepted) (rw (drop-of-length-le ws h) at e) refl
 
   module _ (h : i < length ws) (v : Verdict) (says : Says (claimIn (t .sources) (t .targets) (getD ws i 0)) (t .width) v) where
     abbrev c : Claim
@@ -83,4 +84,4 @@ module _ (t : Terms) (ws : List ℕ) (i : ℕ) (e : unlessWrong t (drop i ws) (G
         let named : Names c (t .width) ≡ unlessWrong t ws (Gives Accepted)
         = rw (sym (wrong-says c (t .width) v says x u)) at by-test in
         subst (λ (y : Verdict). SaysOfAll t ws y) (sym u)
-        (subst (λ (y : Ruling Checked). Answers y (Wrong x)) named (subst (Says c (t .width)) u says))
+        (subst (λ (y : Ruling Checked). CheckRuled y (Wrong x)) named (subst (Says c (t .width)) u says))

@@ -28,12 +28,13 @@ use Rattle.fitting.specs.declared.Pair.the-variants as pair
 use Rattle.fitting.specs.declared.Fit.{Fit}
 use Rattle.fitting.specs.declared.Fit.the-variants.{Fits, Misfit}
 use Rattle.pricer.specs.Pricing.{glueOf}
-use Rattle.checker.specs.Check.{Answers, firstUnbound, unlessWrong, SaysOfAll, accountOf, fittingOf, unlessMisfit, judgementOf, ruledOf, rulingOf, Checks}
+use Rattle.checker.specs.Check.{CheckRuled, firstUnbound, unlessWrong, accountOf, fittingOf, unlessMisfit, judgementOf, ruledOf, rulingOf, Checks}
+use Rattle.checker.specs.FirstWrong.{SaysOfAll}
 use Rattle.checker.specs.declared.Checked.{Checked}
 use Rattle.checker.specs.declared.Checked.the-variants.{Accepted, JobRefused, MappingRefused, Refused, Wrong}
 
-abbrev answers-to : {a b : Ruling Checked} (r : Checked) → a ≡ b → Answers a r → Answers b r
-answers-to r e h = subst (λ (x : Ruling Checked). Answers x r) e h
+abbrev answers-to : {a b : Ruling Checked} (r : Checked) → a ≡ b → CheckRuled a r → CheckRuled b r
+answers-to r e h = subst (λ (x : Ruling Checked). CheckRuled x r) e h
 
 -- ---- 10, and what comes next
 
@@ -53,11 +54,11 @@ right-or-named P t (w ∷ ws) a b none named = go (isRight (claimIn (t .sources)
 module _ (t : Terms) (ws : List ℕ) (next : Ruling Checked) where
   pub no-wrong : SaysOfAll t ws verdict.Right → unlessWrong t ws next ≡ next
   no-wrong =
-      right-or-named (λ x y. Answers x Accepted → y ≡ next) t ws (Gives Accepted) next (λ _. refl) (λ w h. absurd h)
+      right-or-named (λ x y. CheckRuled x Accepted → y ≡ next) t ws (Gives Accepted) next (λ _. refl) (λ w h. absurd h)
 
-  pub still-wrong : (v : Witness) → SaysOfAll t ws (verdict.Wrong v) → Answers (unlessWrong t ws next) (Wrong v)
+  pub still-wrong : (v : Witness) → SaysOfAll t ws (verdict.Wrong v) → CheckRuled (unlessWrong t ws next) (Wrong v)
   still-wrong v =
-      right-or-named (λ x y. Answers x (Wrong v) → Answers y (Wrong v)) t ws (Gives Accepted) next
+      right-or-named (λ x y. CheckRuled x (Wrong v) → CheckRuled y (Wrong v)) t ws (Gives Accepted) next
       (λ h. absurd (let z : _≡_ {A = ℕ} 0 1 = cc in omega arith)) (λ w h. h)
 
 -- ---- 11
@@ -83,19 +84,19 @@ module _ (t : Terms) (m : Mapping) (ws : List ℕ) (f : ℕ) (ef : f ≡ firstUn
   unfolding fittingOf
   by-unbound = ap (λ (x : ℕ). if not (eqb x 0) then Gives (Refused (refusal 9 x)) else rest) ef
 
-  pub incomplete : (f ≡ 0 → ⊥) → Answers (fittingOf t m ws) (Refused (refusal 9 f))
+  pub incomplete : (f ≡ 0 → ⊥) → CheckRuled (fittingOf t m ws) (Refused (refusal 9 f))
   incomplete h = answers-to (Refused (refusal 9 f)) (rw (ne-eqb f 0 h) at by-unbound) refl
 
   module _ (h : f ≡ 0) (v : Verdict) (says : SaysOfAll t ws v) where
     complete : rest ≡ fittingOf t m ws
     complete = rw (eq-eqb f 0 h) at by-unbound
 
-    pub wrong-named : (x : Witness) → v ≡ verdict.Wrong x → Answers (fittingOf t m ws) (Wrong x)
+    pub wrong-named : (x : Witness) → v ≡ verdict.Wrong x → CheckRuled (fittingOf t m ws) (Wrong x)
     wrong-named x u =
         answers-to (Wrong x) complete
         (still-wrong t ws (Gives (accountOf t m ws)) x (subst (λ (y : Verdict). SaysOfAll t ws y) u says))
 
-    pub then-accounted : v ≡ verdict.Right → (r : Checked) → r ≡ accountOf t m ws → Answers (fittingOf t m ws) r
+    pub then-accounted : v ≡ verdict.Right → (r : Checked) → r ≡ accountOf t m ws → CheckRuled (fittingOf t m ws) r
     then-accounted u r er =
         answers-to r
         (sym (no-wrong t ws (Gives (accountOf t m ws)) (subst (λ (y : Verdict). SaysOfAll t ws y) u says)) ∙ complete)
@@ -108,10 +109,10 @@ module _ (t : Terms) (m : Mapping) (ws : List ℕ) (f : Fit) (e : f ≡ fitOf t 
   unfolding judgementOf
   by-fit g u = ap (λ (x : Fit). unlessMisfit x (fittingOf t m ws)) (sym u ∙ e)
 
-  pub misfit : (x : Refusal) → f ≡ Misfit x → Answers (judgementOf t m ws) (Refused x)
+  pub misfit : (x : Refusal) → f ≡ Misfit x → CheckRuled (judgementOf t m ws) (Refused x)
   misfit x u = answers-to (Refused x) (by-fit (Misfit x) u) refl
 
-  pub fitting : f ≡ Fits → (r : Checked) → Answers (fittingOf t m ws) r → Answers (judgementOf t m ws) r
+  pub fitting : f ≡ Fits → (r : Checked) → CheckRuled (fittingOf t m ws) r → CheckRuled (judgementOf t m ws) r
   fitting u r h = answers-to r (by-fit Fits u) h
 
 -- ---- 1 to 6 before
@@ -128,7 +129,7 @@ module _ (jw mw : List ℕ) (p : Pair) (e : p ≡ pairOf jw mw) where
   bad-mapping x u = answers-to (MappingRefused x) (by-pair (pair.MappingRefused x) u) refl
 
   pub both-judged : (j : Job) (m : Mapping) → p ≡ pair.Read j m → (ss ts ws : List ℕ) → ss ≡ sourcesOf jw j → ts ≡ targetsOf jw j
-      → ws ≡ bindingsOf mw m → (r : Checked) → Answers (judgementOf (termsWith j ss ts) m ws) r → Checks jw mw r
+      → ws ≡ bindingsOf mw m → (r : Checked) → CheckRuled (judgementOf (termsWith j ss ts) m ws) r → Checks jw mw r
   both-judged j m u ss ts ws es et ew r h =
       let same : judgementOf (termsWith j ss ts) m ws ≡ rulingOf jw mw = rw (es, et, ew) (by-pair (pair.Read j m) u) in
       answers-to r same h

@@ -12,8 +12,6 @@ use Rattle.alu.specs.Function.{noFunction}
 use Rattle.recipe.specs.Fields.{sourceOf}
 use Rattle.binding.specs.Right.{isRight}
 use Rattle.verdict.specs.Verdicts.{Differs, wrongPaper, Ruling, Gives, Names}
-use Rattle.verdict.specs.declared.Verdict.{Verdict}
-use Rattle.verdict.specs.declared.Verdict.the-variants as verdict
 use Rattle.reader.specs.Limits.{gluePlace}
 use Rattle.reader.specs.declared.Mapping.{Mapping}
 use Rattle.table.specs.Parts.{bindingsOf, Terms, termsOf}
@@ -37,13 +35,13 @@ paperOf (Refused r) = told r
 paperOf (Wrong v) = wrongPaper v
 
 -- what a ruling makes of an answer
-abbrev pub Answers : Ruling Checked → Checked → Type 0
-Answers (Gives answer) r = r ≡ answer
-Answers (Names c n) Accepted = ⊥
-Answers (Names c n) (JobRefused r) = ⊥
-Answers (Names c n) (MappingRefused r) = ⊥
-Answers (Names c n) (Refused r) = ⊥
-Answers (Names c n) (Wrong v) = Differs c n v
+abbrev pub CheckRuled : Ruling Checked → Checked → Type 0
+CheckRuled (Gives answer) r = r ≡ answer
+CheckRuled (Names c n) Accepted = ⊥
+CheckRuled (Names c n) (JobRefused r) = ⊥
+CheckRuled (Names c n) (MappingRefused r) = ⊥
+CheckRuled (Names c n) (Refused r) = ⊥
+CheckRuled (Names c n) (Wrong v) = Differs c n v
 
 -- ---- 9, 10 and 11
 
@@ -66,14 +64,6 @@ unlessWrong t (w ∷ ws) next =
     if not (isRight (claimIn (t .sources) (t .targets) w) (t .width))
     then Names (claimIn (t .sources) (t .targets) w) (t .width)
     else unlessWrong t ws next
-
--- what a verdict on bindings says: Right if each of them is, else Wrong of the first that is not
-abbrev pub asAnswer : Verdict → Checked
-asAnswer verdict.Right = Accepted
-asAnswer (verdict.Wrong v) = Wrong v
-
-abbrev pub SaysOfAll : Terms → List ℕ → Verdict → Type 0
-SaysOfAll t bindings v = Answers (unlessWrong t bindings (Gives Accepted)) (asAnswer v)
 
 -- "11. Glue count differs; place: its word."
 unfoldable pub accountOf : Terms → Mapping → List ℕ → Checked
@@ -109,4 +99,4 @@ rulingOf jobWords mappingWords = ruledOf jobWords mappingWords (pairOf jobWords 
 
 -- what the checker's answer to a job and a mapping is
 abbrev pub Checks : List ℕ → List ℕ → Checked → Type 0
-Checks jobWords mappingWords r = Answers (rulingOf jobWords mappingWords) r
+Checks jobWords mappingWords r = CheckRuled (rulingOf jobWords mappingWords) r

@@ -11,6 +11,7 @@ ghost use mathlib.Core.Path.{_≡_};
 ghost use Rattle.alu.specs.Asked as Q;
 ghost use Rattle.table.specs.Parts as T;
 ghost use Rattle.checker.specs.Check as C;
+ghost use Rattle.checker.specs.FirstWrong as W;
 
 // Accepted; the first refusal, 1 to 6, of the job or of the mapping; another, 7, 8, 9 or 11; or 10, with its values.
 pub enum Checked {
@@ -53,7 +54,7 @@ fn first_unbound(sources: &[u32], bindings: &[u32]) -> u32
 // The verdict on the first binding that is wrong, or Right.
 fn first_wrong(job: Job, sources: &[u32], targets: &[u32], bindings: &[u32]) -> Verdict
     requires { ⌜ Q.Width (job .width) ⌝ }
-    ensures { λ r. ⌜ C.SaysOfAll (T.termsWith job (now (sources .entry)) (now (targets .entry))) (now (bindings .entry)) r ⌝ }
+    ensures { λ r. ⌜ W.SaysOfAll (T.termsWith job (now (sources .entry)) (now (targets .entry))) (now (bindings .entry)) r ⌝ }
 {
     let mut i = 0;
     while i < bindings.len() {
@@ -95,7 +96,7 @@ fn judge_fitting(
     bindings: &[u32],
 ) -> Checked
     requires { ⌜ Q.Width (job .width) ⌝ }
-    ensures { λ r. ⌜ C.Answers (C.fittingOf (T.termsWith job (now (sources .entry)) (now (targets .entry))) mapping (now (bindings .entry))) r ⌝ }
+    ensures { λ r. ⌜ C.CheckRuled (C.fittingOf (T.termsWith job (now (sources .entry)) (now (targets .entry))) mapping (now (bindings .entry))) r ⌝ }
 {
     let unbound = first_unbound(sources, bindings);
     if unbound != alu::NO_FUNCTION {
@@ -120,7 +121,7 @@ fn judge_mapping(
     bindings: &[u32],
 ) -> Checked
     requires { ⌜ Q.Width (job .width) ⌝ }
-    ensures { λ r. ⌜ C.Answers (C.judgementOf (T.termsWith job (now (sources .entry)) (now (targets .entry))) mapping (now (bindings .entry))) r ⌝ }
+    ensures { λ r. ⌜ C.CheckRuled (C.judgementOf (T.termsWith job (now (sources .entry)) (now (targets .entry))) mapping (now (bindings .entry))) r ⌝ }
 {
     let fit = fitting::fit_of(job, sources, targets, mapping, bindings);
     match fit {

@@ -14,14 +14,14 @@ use Rattle.fitting.specs.Pair.{pairOf}
 use Rattle.fitting.specs.declared.Pair.{Pair}
 use Rattle.fitting.specs.declared.Pair.the-variants as pair
 use Rattle.fitting.proofs.Pairs.{of-pair}
-use Rattle.checker.specs.Check.{paperOf, Answers, ruledOf, rulingOf, Checks}
+use Rattle.checker.specs.Check.{paperOf, CheckRuled, ruledOf, rulingOf, Checks}
 use Rattle.checker.specs.declared.Checked.{Checked}
 use Rattle.checker.specs.declared.Checked.the-variants.{Accepted}
 use Rattle.demands.specs.Mapped.{sourceAt, Fitting, Bound, Complete, RightAt, RightlyMapped, NamesUnbound, NamesWrong}
 use Rattle.demands.proofs.ByIndex.{fitted, accepting, accepted-judged, lowest-unbound, lowest-wrong}
 use Rattle.demands.proofs.Papers.{accepted-paper}
 
-accepted-pair : (jw mw : List ℕ) (p : Pair) → pairOf jw mw ≡ p → Answers (ruledOf jw mw p) Accepted → RightlyMapped jw mw
+accepted-pair : (jw mw : List ℕ) (p : Pair) → pairOf jw mw ≡ p → CheckRuled (ruledOf jw mw p) Accepted → RightlyMapped jw mw
 accepted-pair jw mw (pair.Read j m) e h = let r = of-pair jw mw j m e in accepted-judged jw mw j m (r .0) (r .1) h
 accepted-pair jw mw (pair.JobRefused x) e h = absurd (let z : _≡_ {A = ℕ} 0 1 = cc in omega arith)
 accepted-pair jw mw (pair.MappingRefused x) e h = absurd (let z : _≡_ {A = ℕ} 0 1 = cc in omega arith)
@@ -39,7 +39,7 @@ module _ (jw mw : List ℕ) (r : Checked) (answer : Checks jw mw r) where
       let ej = q .fitting .job-well-formed in
       let em = q .fitting .mapping-well-formed in
       let ruled = fitted jw mw j m ej em (q .fitting .fits) ∙ accepting jw mw j m ej em (q .complete) (q .all-right) (q .rightly-priced) in
-      ap paperOf (subst (λ (x : Ruling Checked). Answers x r) ruled answer)
+      ap paperOf (subst (λ (x : Ruling Checked). CheckRuled x r) ruled answer)
 
   -- Accepted exactly if job and mapping are well formed, the mapping fits, is complete, all its bindings are right at the job's width
   -- for every left, every right and both carries, and it is rightly priced.

@@ -16,7 +16,7 @@ use Rattle.verdict.specs.Verdicts.{Ruling, Gives}
 use Rattle.reader.specs.Limits.{mostSources}
 use Rattle.soundness.specs.Sound.{ruleFault}
 use Rattle.soundness.proofs.Soundness.{sound-sources}
-use Rattle.bench.specs.Calls.{soundBench, holding, gives, inTables, entryFor, boundAt, isTaken, bindFault, claimOn, bindOf, WrongAt, Answers, Binds, paperOf}
+use Rattle.bench.specs.Calls.{soundBench, holding, gives, inTables, entryFor, boundAt, isTaken, bindFault, claimOn, bindOf, WrongAt, BindRuled, Binds, paperOf}
 use Rattle.bench.specs.declared.Bench.{Bench}
 use Rattle.bench.specs.declared.Answer.{Answer}
 use Rattle.bench.specs.declared.Answer.the-variants.{Done, Count, Mapping, Refused, Wrong}
@@ -58,7 +58,7 @@ wrong-paper c n (Wrong v) h e = let z : _≡_ {A = ℕ} 10 0 = ap (λ (p : Paper
 pub outcome : (b : Bench) (w : ℕ) (r : After) → Binds b w r → Outcome b w r
 unfolding bindOf
 outcome b w r =
-    let P : Ruling After → Type 0 = λ x. Answers b x r → Outcome b w r in
+    let P : Ruling After → Type 0 = λ x. BindRuled b x r → Outcome b w r in
     either P (not (eqb (bindFault b w) 0))
     (λ f e. Unchanged
     (λ p. eqb-false (bindFault b w) 0 (not-true (eqb (bindFault b w) 0) f)

@@ -24,7 +24,7 @@ use Rattle.mapper.specs.Choose.{Mapped}
 use Rattle.mapper.specs.Mapping.{choiceOf}
 use Rattle.soundness.specs.Sound.{sourcesOn, targetsOn, ruleFault}
 use Rattle.soundness.proofs.Soundness.{a-rule}
-use Rattle.bench.specs.Calls.{soundBench, holding, gives, tableOf, tablesIn, opened, entryOf, entryFor, boundAt, Answers}
+use Rattle.bench.specs.Calls.{soundBench, holding, gives, tableOf, tablesIn, opened, entryOf, entryFor, boundAt, BindRuled}
 use Rattle.bench.specs.declared.Bench.{Bench}
 use Rattle.bench.specs.declared.Answer.the-variants.{Done}
 use Rattle.bench.specs.declared.After.{After}
@@ -57,7 +57,7 @@ binds-all [] b end q = q
 binds-all (w ∷ ws) b end q = (
   gives (boundOn b w) Done,
   (
-    subst (λ (x : Ruling After). Answers b x (gives (boundOn b w) Done)) (sym (allowed-gives b w (q .0))) refl,
+    subst (λ (x : Ruling After). BindRuled b x (gives (boundOn b w) Done)) (sym (allowed-gives b w (q .0))) refl,
     (refl, binds-all ws (boundOn b w) end (q .1)),
   ),
 )

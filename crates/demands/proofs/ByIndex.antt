@@ -32,7 +32,7 @@ use Rattle.fitting.specs.declared.Fit.{Fit}
 use Rattle.fitting.specs.declared.Fit.the-variants.{Fits, Misfit}
 use Rattle.fitting.proofs.Pairs.{both-read}
 use Rattle.pricer.specs.Pricing.{glueOf}
-use Rattle.checker.specs.Check.{paperOf, Answers, binds, firstUnbound, unlessWrong, accountOf, fittingOf, unlessMisfit, judgementOf, ruledOf, rulingOf, Checks}
+use Rattle.checker.specs.Check.{paperOf, CheckRuled, binds, firstUnbound, unlessWrong, accountOf, fittingOf, unlessMisfit, judgementOf, ruledOf, rulingOf, Checks}
 use Rattle.checker.specs.declared.Checked.{Checked}
 use Rattle.checker.specs.declared.Checked.the-variants.{Accepted, JobRefused, MappingRefused, Refused, Wrong}
 use Rattle.demands.specs.Mapped.{sourceAt, bindingAt, claimAt, Bound, Complete, RightAt, AllRight, RightlyMapped, NamesUnbound, NamesWrong}
@@ -56,7 +56,7 @@ abbrev WrongOf : Claim → ℕ → Checked → Witness → Type 0
 WrongOf c n r v =
     (paperOf r ≡ refusedWith 10 (c .function) (v .port ∷ v .left ∷ v .right ∷ num (v .carry) ∷ [])) × Differs c n v
 
-wrong-answer : (c : Claim) (n : ℕ) (r : Checked) → Answers (Names c n) r → (v : Witness) × WrongOf c n r v
+wrong-answer : (c : Claim) (n : ℕ) (r : Checked) → CheckRuled (Names c n) r → (v : Witness) × WrongOf c n r v
 wrong-answer c n Accepted h = absurd h
 wrong-answer c n (JobRefused x) h = absurd h
 wrong-answer c n (MappingRefused x) h = absurd h
@@ -165,10 +165,10 @@ module _ (jw mw : List ℕ) (j : Job) (m : Mapping) (ej : WellFormedJob jw j) (e
       (λ _ u. absurd (let z : _≡_ {A = ℕ} 0 1 = cc in omega arith))
       (λ b _. eqb-true (glueOf j bindings) (m .glue) (not-false (eqb (glueOf j bindings) (m .glue)) b)) h
 
-  accepted-fitting : fit ≡ Fits → Answers (fittingOf t m bindings) Accepted → RightlyMapped jw mw
+  accepted-fitting : fit ≡ Fits → CheckRuled (fittingOf t m bindings) Accepted → RightlyMapped jw mw
   unfolding fittingOf
   accepted-fitting e h =
-      either (λ x. Answers x Accepted → RightlyMapped jw mw) (not (eqb (firstUnbound sources bindings) noFunction))
+      either (λ x. CheckRuled x Accepted → RightlyMapped jw mw) (not (eqb (firstUnbound sources bindings) noFunction))
       (λ _ u. absurd (let z : _≡_ {A = ℕ} 0 1 = cc in omega arith))
       (λ b u. let r = accepted-all-right t (Gives (accountOf t m bindings)) bindings u in
       record {
@@ -182,18 +182,18 @@ module _ (jw mw : List ℕ) (j : Job) (m : Mapping) (ej : WellFormedJob jw j) (e
         rightly-priced = accepted-glue (r .1);
       }) h
 
-  pub accepted-judged : Answers (judgementOf t m bindings) Accepted → RightlyMapped jw mw
+  pub accepted-judged : CheckRuled (judgementOf t m bindings) Accepted → RightlyMapped jw mw
   unfolding judgementOf
   accepted-judged h = go fit refl h
     where
-      go : (f : Fit) → fit ≡ f → Answers (unlessMisfit f (fittingOf t m bindings)) Accepted → RightlyMapped jw mw
+      go : (f : Fit) → fit ≡ f → CheckRuled (unlessMisfit f (fittingOf t m bindings)) Accepted → RightlyMapped jw mw
       go Fits e u = accepted-fitting e u
       go (Misfit x) e u = absurd (let z : _≡_ {A = ℕ} 0 1 = cc in omega arith)
 
   -- ---- the first that fails is named
 
-  ruled : (x : Ruling Checked) → rulingOf jw mw ≡ x → (r : Checked) → Checks jw mw r → Answers x r
-  ruled x e r h = subst (λ (y : Ruling Checked). Answers y r) e h
+  ruled : (x : Ruling Checked) → rulingOf jw mw ≡ x → (r : Checked) → Checks jw mw r → CheckRuled x r
+  ruled x e r h = subst (λ (y : Ruling Checked). CheckRuled y r) e h
 
   unbound-named : fit ≡ Fits → (at : ℕ) → First (boundIn bindings) sources at → at < j .sources
       → (r : Checked) → Checks jw mw r → r ≡ Refused (refusal 9 (sourcePlace (sourceAt jw at)))

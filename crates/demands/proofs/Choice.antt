@@ -15,7 +15,7 @@ use Rattle.words.specs.Field.{sourceFunction}
 use Rattle.words.specs.Paper.{sourcePlace}
 use Rattle.words.proofs.Choices.{either}
 use Rattle.table.specs.Parts.{Terms}
-use Rattle.mapper.specs.Choose.{serves, none, beats, better, bestOf, Mapped, Unmappable, withRule, choose}
+use Rattle.mapper.specs.Choose.{serves, noRule, beats, better, bestOf, Mapped, Unmappable, withRule, choose}
 use Rattle.mapper.specs.declared.choose.Best.{Best}
 use Rattle.demands.specs.Choice.{Served, Least}
 
@@ -128,19 +128,19 @@ module _ (g : ℕ → ℕ) (t : Terms) (f : ℕ) where
   outcome (w ∷ ws) best = one-more best w ws (outcome ws) (taken best w (serves t f w) refl)
 
   -- the best rule of all is the least
-  pub best-least : (rules : List ℕ) → bestOf g t f none rules .found ≡ true → Least g t f rules (bestOf g t f none rules .word)
-  best-least rules h = go (bestOf g t f none rules) h (outcome rules none)
+  pub best-least : (rules : List ℕ) → bestOf g t f noRule rules .found ≡ true → Least g t f rules (bestOf g t f noRule rules .word)
+  best-least rules h = go (bestOf g t f noRule rules) h (outcome rules noRule)
     where
-      go : (r : Best) → r .found ≡ true → Outcome none rules r → Least g t f rules (r .word)
+      go : (r : Best) → r .found ≡ true → Outcome noRule rules r → Least g t f rules (r .word)
       go r e (stays u all) = absurd (false≢true (ap (λ (x : Best). x .found) (sym u) ∙ e))
       go r e (moves ef et l b) = l
 
   -- one is found where some rule is usable
-  pub served-found : (rules : List ℕ) → Served t f rules → bestOf g t f none rules .found ≡ true
+  pub served-found : (rules : List ℕ) → Served t f rules → bestOf g t f noRule rules .found ≡ true
   unfolding Serves
-  served-found rules s = go (bestOf g t f none rules) (outcome rules none)
+  served-found rules s = go (bestOf g t f noRule rules) (outcome rules noRule)
     where
-      go : (r : Best) → Outcome none rules r → r .found ≡ true
+      go : (r : Best) → Outcome noRule rules r → r .found ≡ true
       go r (stays u all) = absurd (false≢true (all (s .index) (s .within) (s .is-served) .0))
       go r (moves ef et l b) = ef
 
@@ -200,7 +200,7 @@ module _ (t : Terms) (rules : List ℕ) where
       let u : bound ≡ all = cc in
       record { size = omega (arith, ap length u); first = rw u (take-length all); least = λ k h. absurd (omega arith) }
   mapped-chosen (s ∷ ss) bound all e =
-      let b = bestOf (withRule t bound) t (sourceFunction s) none rules in
+      let b = bestOf (withRule t bound) t (sourceFunction s) noRule rules in
       either (λ x. x ≡ Mapped all → Chosen bound (s ∷ ss) all) (b .found)
       (λ h u. chosen-more bound s ss all (b .word) (best-least (withRule t bound) t (sourceFunction s) rules h)
       (mapped-chosen ss (bound ++ b .word ∷ []) all u))
@@ -212,7 +212,7 @@ module _ (t : Terms) (rules : List ℕ) where
   unfolding choose
   all-served [] bound h = (bound, refl)
   all-served (s ∷ ss) bound h =
-      let b = bestOf (withRule t bound) t (sourceFunction s) none rules in
+      let b = bestOf (withRule t bound) t (sourceFunction s) noRule rules in
       let r = all-served ss (bound ++ b .word ∷ []) (λ k l. h (suc k) (omega arith)) in
       (r .0, rw (served-found (withRule t bound) t (sourceFunction s) rules (h 0 (omega arith))) (r .1))
 
@@ -234,7 +234,7 @@ module _ (t : Terms) (rules : List ℕ) where
   mapped-apart : {Q : Type 0} (all : List ℕ) (place : ℕ) → Mapped all ≡ Unmappable place → Q
   mapped-apart all place e = let z : _≡_ {A = ℕ} 0 1 = cc in absurd (omega arith)
 
-  here-unserved : (s : ℕ) (ss bound : List ℕ) (place : ℕ) → bestOf (withRule t bound) t (sourceFunction s) none rules .found ≡ false
+  here-unserved : (s : ℕ) (ss bound : List ℕ) (place : ℕ) → bestOf (withRule t bound) t (sourceFunction s) noRule rules .found ≡ false
       → Unmappable (sourcePlace (sourceFunction s)) ≡ Unmappable place → Unserved (s ∷ ss) place
   here-unserved s ss bound place h u =
       record {
@@ -245,7 +245,7 @@ module _ (t : Terms) (rules : List ℕ) where
         earlier-served = λ i l. absurd (omega arith);
       }
 
-  later-unserved : (s : ℕ) (ss bound : List ℕ) (place : ℕ) → bestOf (withRule t bound) t (sourceFunction s) none rules .found ≡ true
+  later-unserved : (s : ℕ) (ss bound : List ℕ) (place : ℕ) → bestOf (withRule t bound) t (sourceFunction s) noRule rules .found ≡ true
       → Unserved ss place → Unserved (s ∷ ss) place
   later-unserved s ss bound place h u =
       let l = best-least (withRule t bound) t (sourceFunction s) rules h in
@@ -269,7 +269,7 @@ module _ (t : Terms) (rules : List ℕ) where
   unfolding choose
   unmappable-unserved [] bound place e = mapped-apart bound place e
   unmappable-unserved (s ∷ ss) bound place e =
-      let b = bestOf (withRule t bound) t (sourceFunction s) none rules in
+      let b = bestOf (withRule t bound) t (sourceFunction s) noRule rules in
       either (λ x. x ≡ Unmappable place → Unserved (s ∷ ss) place) (b .found)
       (λ h u. later-unserved s ss bound place h (unmappable-unserved ss (bound ++ b .word ∷ []) place u))
       (λ h u. here-unserved s ss bound place h u) e

@@ -14,7 +14,7 @@ use Rattle.words.proofs.Fields.{field-lt}
 use Rattle.recipe.specs.Fields.{sourceOf}
 use Rattle.recipe.specs.Layout.{recipeFault}
 use Rattle.recipe.proofs.Content.{same-source, same-target, same-from-scratch, same-vector, same-fields, same-fault}
-use Rattle.binding.specs.Binding.{plain, scratch, fromTarget, recipeOf}
+use Rattle.binding.specs.Binding.{plain, fromVector, fromTarget, recipeOf}
 use Rattle.wellformed.proofs.Parts.{kind-of-laid, content-of-laid}
 use Rattle.table.specs.Table.{listsTarget, hasTarget, claimIn}
 use Rattle.usage.specs.Sets.{usage}
@@ -40,7 +40,7 @@ module _ (w : ℕ) where
   unfolding recipeOf
   recipe-same =
       λ i.
-      if same-from-scratch (bindingWord w) w content-same i then scratch (same-vector (bindingWord w) w content-same i)
+      if same-from-scratch (bindingWord w) w content-same i then fromVector (same-vector (bindingWord w) w content-same i)
       else fromTarget (same-fields (bindingWord w) w content-same i)
 
   pub claim-same : (sources targets : List ℕ) → claimIn sources targets (bindingWord w) ≡ claimIn sources targets w

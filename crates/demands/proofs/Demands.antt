@@ -24,7 +24,7 @@ use Rattle.table.specs.Parts.{sourcesOf, rulesOf, bindingsOf, termsOf}
 use Rattle.pricer.specs.Pricing.{glueOf}
 use Rattle.writer.specs.Write.{bindingWords, wordsNeeded}
 use Rattle.mapper.specs.Choose.{Choice, Mapped, Unmappable}
-use Rattle.mapper.specs.Mapping.{choiceOf, chosenWords, answerOf, lentOf}
+use Rattle.mapper.specs.Mapping.{choiceOf, chosenWords, answerOf, lentAfterMap}
 use Rattle.mapper.specs.Mapping as mapper
 use Rattle.mapper.proofs.Answering.{sources-length}
 use Rattle.checker.specs.Check.{Checks}
@@ -135,10 +135,10 @@ module _ (ws lent : List ℕ) where
       by-choice (Unmappable place) c = (place, unmappable-answer ws lent job e place c)
 
   -- "A refusal .. writes to no lent word."
-  pub refused-writes-nothing : (number place : ℕ) → mapper.paperOf (answerOf ws lent) ≡ refused number place → lentOf ws lent ≡ lent
+  pub refused-writes-nothing : (number place : ℕ) → mapper.paperOf (answerOf ws lent) ≡ refused number place → lentAfterMap ws lent ≡ lent
   refused-writes-nothing number place a = by-outcome (outcome ws lent)
     where
-      by-outcome : Outcome ws lent → lentOf ws lent ≡ lent
+      by-outcome : Outcome ws lent → lentAfterMap ws lent ≡ lent
       by-outcome (Unread r e _ kept) = kept
       by-outcome (Unmapped job i e c _ kept) = kept
       by-outcome (Short job bound e c h _ kept) = kept
@@ -181,7 +181,7 @@ refused-bind-changes-nothing b w r answer refused = by-outcome (bind b w r answe
 
 -- and a refused finish the lent words.
 pub refused-finish-writes-nothing : (b : Bench) → Shaped b → (lent : List ℕ) (number place : ℕ)
-    → bench.paperOf (finishOf b lent .answer) ≡ refused number place → bench.lentOf b lent ≡ lent
+    → bench.paperOf (finishOf b lent .answer) ≡ refused number place → bench.lentAfterFinish b lent ≡ lent
 refused-finish-writes-nothing b h lent number place e = refused-lent b h lent number place e
 
 module _ (ws : List ℕ) (job : Job) (e : WellFormedJob ws job) where
@@ -214,7 +214,7 @@ module _ (ws : List ℕ) (job : Job) (e : WellFormedJob ws job) where
         subst (λ (x : Bench). Allowed x (getD bound k 0)) (sym same)
         (choice-allowed ws job e bound choice (b .bound) (ap soundBench (sym same) ∙ o .sound) k h free) in
         ap (λ (x : After). bench.paperOf (x .answer))
-        (subst (λ (x : Ruling After). bench.Answers b x r) (allowed-gives b (getD bound k 0) a) answer)
+        (subst (λ (x : Ruling After). bench.BindRuled b x r) (allowed-gives b (getD bound k 0) a) answer)
 
     module _ (order : List ℕ) (p : List·Permᴰ bound order) where
       -- so every order can be carried out,
@@ -240,7 +240,7 @@ module _ (ws : List ℕ) (job : Job) (e : WellFormedJob ws job) where
             ap (λ (x : Bench). bench.paperOf (finishOf x lent .answer)) the-end
             ∙ same-answer ws job e bound choice (order-of-job ws job e bound choice order p) lent
 
-        pub every-order-writes-the-same : (lent : List ℕ) → bench.lentOf end lent ≡ lentOf ws lent
+        pub every-order-writes-the-same : (lent : List ℕ) → bench.lentAfterFinish end lent ≡ lentAfterMap ws lent
         every-order-writes-the-same lent =
-            ap (λ (x : Bench). bench.lentOf x lent) the-end
+            ap (λ (x : Bench). bench.lentAfterFinish x lent) the-end
             ∙ same-lent ws job e bound choice (order-of-job ws job e bound choice order p) lent

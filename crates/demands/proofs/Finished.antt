@@ -20,7 +20,7 @@ use Rattle.writer.specs.Write.{wordsNeeded, writtenOf}
 use Rattle.writer.proofs.Writing.{mapping-length, written-words}
 use Rattle.soundness.specs.Sound.{sourcesOn, targetsOn, filled, ruleFault, bindable, entrySound, boundSound}
 use Rattle.soundness.proofs.Soundness.{sound-holds, sound-sources}
-use Rattle.bench.specs.Calls.{soundBench, bindingsOn, gives, glueOn, firstEmpty, unboundOn, mappingOn, finishOf, lentOf}
+use Rattle.bench.specs.Calls.{soundBench, bindingsOn, gives, glueOn, firstEmpty, unboundOn, mappingOn, finishOf, lentAfterFinish}
 use Rattle.bench.specs.Shape.{Shaped}
 use Rattle.bench.specs.declared.Bench.{Bench}
 use Rattle.bench.specs.declared.Answer.the-variants.{Mapping}
@@ -84,7 +84,7 @@ bound-some (w ∷ bs) m h e =
 
 pub record Finished (b : Bench) (lent : List ℕ) : Type 0 where
   pub answer : finishOf b lent ≡ gives b (Mapping (wordsNeeded (b .tables .nsources)))
-  pub words : lentOf b lent ≡ mappingOn b ++ drop (wordsNeeded (b .tables .nsources)) lent
+  pub words : lentAfterFinish b lent ≡ mappingOn b ++ drop (wordsNeeded (b .tables .nsources)) lent
 
 module _ (b : Bench) (h : Shaped b) (s : soundBench b ≡ true) (u : unboundOn b ≡ 0) where
   pub binding-number : length (bindingsOn b) ≡ b .tables .nsources
@@ -107,7 +107,7 @@ module _ (b : Bench) (h : Shaped b) (s : soundBench b ≡ true) (u : unboundOn b
       (bound-some (b .bound) m (omega (arith, binding-number)))
 
   pub finishes : (lent : List ℕ) → wordsNeeded (b .tables .nsources) ≤ length lent → Finished b lent
-  unfolding finishOf lentOf writtenOf
+  unfolding finishOf lentAfterFinish writtenOf
   finishes lent room =
       let n : length (mappingOn b) ≡ wordsNeeded (b .tables .nsources)
       = mapping-length (b .tables .width) (glueOn b) (bindingsOn b) ∙ ap wordsNeeded binding-number in

@@ -22,7 +22,7 @@ use Rattle.mapper.specs.Choose.{Mapped}
 use Rattle.mapper.specs.Mapping.{choiceOf, chosenWords, answerOf}
 use Rattle.mapper.specs.Mapping as mapper
 use Rattle.soundness.specs.Sound.{sourcesOn}
-use Rattle.bench.specs.Calls.{soundBench, holding, bindingsOn, tableOf, opened, glueOn, unboundOn, afterWriting, mappingOn, finishOf, lentOf, paperOf}
+use Rattle.bench.specs.Calls.{soundBench, holding, bindingsOn, tableOf, opened, glueOn, unboundOn, finishWritten, mappingOn, finishOf, lentAfterFinish, paperOf}
 use Rattle.bench.specs.Shape.{Shaped}
 use Rattle.bench.specs.declared.Bench.{Bench}
 use Rattle.bench.specs.declared.Answer.the-variants.{Refused}
@@ -75,7 +75,7 @@ module _ (ws : List ℕ) (job : Job) (e : WellFormedJob ws job) (bound : List �
       sym (all-bound chosen (bench-shaped ws job e chosen o) (o .sound) all-held)
       ∙ table-words mostSources bound (job .sources) (size ws job e bound eb)
 
-  same-paper : (r : Written) → paperOf (afterWriting r) ≡ mapper.paperOf (mapper.afterWriting r)
+  same-paper : (r : Written) → paperOf (finishWritten r) ≡ mapper.paperOf (mapper.mapWritten r)
   same-paper (Words n) = refl
   same-paper (TooFew r) = refl
 
@@ -86,8 +86,8 @@ module _ (ws : List ℕ) (job : Job) (e : WellFormedJob ws job) (bound : List �
       (rw (eq-eqb (unboundOn chosen) 0 all-held)
       (rw e (rw eb (rw (size ws job e bound eb) (same-paper (writtenOf (job .sources) lent))))))
 
-  pub same-lent : (lent : List ℕ) → lentOf chosen lent ≡ mapper.lentOf ws lent
-  unfolding lentOf mapper.lentOf
+  pub same-lent : (lent : List ℕ) → lentAfterFinish chosen lent ≡ mapper.lentAfterMap ws lent
+  unfolding lentAfterFinish mapper.lentAfterMap
   same-lent lent =
       rw (o .sound)
       (rw (eq-eqb (unboundOn chosen) 0 all-held)
@@ -96,12 +96,12 @@ module _ (ws : List ℕ) (job : Job) (e : WellFormedJob ws job) (bound : List �
 -- ---- a refused finish
 
 module _ (b : Bench) (h : Shaped b) (lent : List ℕ) (number place : ℕ) where
-  pub refused-lent : paperOf (finishOf b lent .answer) ≡ refused number place → lentOf b lent ≡ lent
-  unfolding finishOf lentOf writtenOf
+  pub refused-lent : paperOf (finishOf b lent .answer) ≡ refused number place → lentAfterFinish b lent ≡ lent
+  unfolding finishOf lentAfterFinish writtenOf
   refused-lent e = by-soundness (soundBench b) refl (eqb (unboundOn b) 0) refl e
     where
       too-few : soundBench b ≡ true → unboundOn b ≡ 0 → (c : Bool) → ltb (length lent) (wordsNeeded (b .tables .nsources)) ≡ c
-          → paperOf (afterWriting (if c then TooFew (refusal 23 (wordsNeeded (b .tables .nsources))) else Words (wordsNeeded (b .tables .nsources))))
+          → paperOf (finishWritten (if c then TooFew (refusal 23 (wordsNeeded (b .tables .nsources))) else Words (wordsNeeded (b .tables .nsources))))
           ≡ refused number place
           → lentAfter (mappingOn b) lent ≡ lent
       too-few s u true z e =
@@ -118,7 +118,7 @@ module _ (b : Bench) (h : Shaped b) (lent : List ℕ) (number place : ℕ) where
           → paperOf
           (if not p then Refused (refusal 20 0)
           else if not q then Refused (refusal 22 (unboundOn b))
-          else afterWriting (writtenOf (b .tables .nsources) lent))
+          else finishWritten (writtenOf (b .tables .nsources) lent))
           ≡ refused number place
           → (if not p then lent else if not q then lent else lentAfter (mappingOn b) lent) ≡ lent
       by-soundness true s true u e =

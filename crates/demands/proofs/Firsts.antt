@@ -16,7 +16,7 @@ use Rattle.binding.specs.Right.{isRight}
 use Rattle.verdict.specs.Verdicts.{Ruling, Names}
 use Rattle.table.specs.Parts.{Terms}
 use Rattle.table.specs.Table.{claimIn}
-use Rattle.checker.specs.Check.{Answers, binds, firstUnbound, unlessWrong}
+use Rattle.checker.specs.Check.{CheckRuled, binds, firstUnbound, unlessWrong}
 use Rattle.checker.specs.declared.Checked.{Checked}
 use Rattle.checker.specs.declared.Checked.the-variants.{Accepted}
 
@@ -132,10 +132,10 @@ module _ (t : Terms) (next : Ruling Checked) where
   wrong-first (w ∷ ws) (suc k) q = rw (q .before 0 (omega arith)) (wrong-first ws k (first-rest (rightUnder t) w ws k q))
 
   -- only where each is right can the answer be Accepted
-  pub accepted-all-right : (ws : List ℕ) → Answers (unlessWrong t ws next) Accepted → Passes (rightUnder t) ws × Answers next Accepted
+  pub accepted-all-right : (ws : List ℕ) → CheckRuled (unlessWrong t ws next) Accepted → Passes (rightUnder t) ws × CheckRuled next Accepted
   unfolding unlessWrong
   accepted-all-right [] h = (λ i l. absurd (omega arith), h)
   accepted-all-right (w ∷ ws) h =
-      either (λ x. Answers x Accepted → Passes (rightUnder t) (w ∷ ws) × Answers next Accepted) (not (rightUnder t w))
+      either (λ x. CheckRuled x Accepted → Passes (rightUnder t) (w ∷ ws) × CheckRuled next Accepted) (not (rightUnder t w))
       (λ _ u. absurd u)
       (λ b u. let r = accepted-all-right ws u in (passes-more (rightUnder t) w ws (not-false (rightUnder t w) b) (r .0), r .1)) h

@@ -17,7 +17,7 @@ use Rattle.table.specs.Table.{listsSource, hasTarget, claimIn}
 use Rattle.table.proofs.Entries.{in-job-parts}
 use Rattle.soundness.specs.Sound.{sourcesOn, targetsOn, ruleFault, bindable, entrySound, boundSound}
 use Rattle.soundness.proofs.Soundness.{sound-holds, sound-when}
-use Rattle.bench.specs.Calls.{soundBench, entryOf, entryFor, boundAt, bindFault, claimOn, bindOf, Answers, Binds}
+use Rattle.bench.specs.Calls.{soundBench, entryOf, entryFor, boundAt, bindFault, claimOn, bindOf, BindRuled, Binds}
 use Rattle.bench.specs.declared.Bench.{Bench}
 use Rattle.bench.specs.declared.After.{After}
 use Rattle.bench.proofs.Binds.{Checked, checked}
@@ -75,7 +75,7 @@ bound-sound b w c right =
 pub bind-keeps-sound : (b : Bench) (w : ℕ) (r : After) → Binds b w r → soundBench b ≡ true → soundBench (r .bench) ≡ true
 unfolding bindOf
 bind-keeps-sound b w r a s =
-    let Q : Ruling After → Type 0 = λ x. Answers b x r → soundBench (r .bench) ≡ true in
+    let Q : Ruling After → Type 0 = λ x. BindRuled b x r → soundBench (r .bench) ≡ true in
     either Q (not (eqb (bindFault b w) 0)) (λ _ e. ap (λ (x : After). soundBench (x .bench)) e ∙ s)
     (λ f. either Q (not (isRight (claimOn b w) (b .tables .width))) (λ _ e. ap soundBench (e .0) ∙ s)
     (λ right e. ap (λ (x : After). soundBench (x .bench)) e

@@ -16,7 +16,7 @@ use Rattle.pricer.specs.Pricing.{glueOf}
 use Rattle.writer.specs.Write.{wordsNeeded, writtenOf}
 use Rattle.writer.proofs.Writing.{mapping-length, written-words, untouched}
 use Rattle.mapper.specs.Choose.{Choice, Mapped, Unmappable}
-use Rattle.mapper.specs.Mapping.{choiceOf, chosenWords, answerOf, lentOf, paperOf}
+use Rattle.mapper.specs.Mapping.{choiceOf, chosenWords, answerOf, lentAfterMap, paperOf}
 use Rattle.demands.proofs.Chosen.{one-each}
 
 -- what comes with an acceptance does not come with a refusal
@@ -28,19 +28,19 @@ accepted-apart n number place e =
 
 pub data Outcome (ws lent : List ℕ) : Type 0 where
   Unread : (r : Refusal) → jobOf ws ≡ job-read.Refused r → paperOf (answerOf ws lent) ≡ told r
-      → lentOf ws lent ≡ lent → Outcome ws lent
+      → lentAfterMap ws lent ≡ lent → Outcome ws lent
   Unmapped : (job : Job) (place : ℕ) → WellFormedJob ws job → choiceOf ws job ≡ Unmappable place
-      → paperOf (answerOf ws lent) ≡ refused 12 place → lentOf ws lent ≡ lent → Outcome ws lent
+      → paperOf (answerOf ws lent) ≡ refused 12 place → lentAfterMap ws lent ≡ lent → Outcome ws lent
   Short : (job : Job) (bound : List ℕ) → WellFormedJob ws job → choiceOf ws job ≡ Mapped bound
       → length lent < wordsNeeded (job .sources) → paperOf (answerOf ws lent) ≡ refused 23 (wordsNeeded (job .sources))
-      → lentOf ws lent ≡ lent → Outcome ws lent
+      → lentAfterMap ws lent ≡ lent → Outcome ws lent
   Writes : (job : Job) (bound : List ℕ) → WellFormedJob ws job → choiceOf ws job ≡ Mapped bound
       → wordsNeeded (job .sources) ≤ length lent → paperOf (answerOf ws lent) ≡ accepted (wordsNeeded (job .sources) ∷ [])
-      → lentOf ws lent ≡ chosenWords job bound ++ drop (wordsNeeded (job .sources)) lent → Outcome ws lent
+      → lentAfterMap ws lent ≡ chosenWords job bound ++ drop (wordsNeeded (job .sources)) lent → Outcome ws lent
 
 module _ (ws lent : List ℕ) where
   of-refused : (r : Refusal) → jobOf ws ≡ job-read.Refused r → Outcome ws lent
-  unfolding answerOf lentOf
+  unfolding answerOf lentAfterMap
   of-refused r e = Unread r e (rw e refl) (rw e refl)
 
   -- where a job is read its choice decides
@@ -50,7 +50,7 @@ module _ (ws lent : List ℕ) where
     unmappable-answer place c = rw e (rw c refl)
 
     of-unmappable : (place : ℕ) → choiceOf ws job ≡ Unmappable place → Outcome ws lent
-    unfolding lentOf
+    unfolding lentAfterMap
     of-unmappable place c = Unmapped job place e c (unmappable-answer place c) (rw e (rw c refl))
 
     module _ (bound : List ℕ) (c : choiceOf ws job ≡ Mapped bound) where
@@ -61,15 +61,15 @@ module _ (ws lent : List ℕ) where
       words-needed = mapping-length (job .width) (glueOf job bound) bound ∙ ap wordsNeeded one
 
       of-short : length lent < wordsNeeded (job .sources) → Outcome ws lent
-      unfolding answerOf lentOf writtenOf
+      unfolding answerOf lentAfterMap writtenOf
       of-short h =
           Short job bound e c h (rw e (rw c (rw one (rw (lt-ltb (length lent) (wordsNeeded (job .sources)) h) refl))))
           (rw e (rw c (untouched (chosenWords job bound) lent (omega (arith, words-needed)))))
 
       pub mapped-writes : wordsNeeded (job .sources) ≤ length lent
           → (paperOf (answerOf ws lent) ≡ accepted (wordsNeeded (job .sources) ∷ []))
-          × (lentOf ws lent ≡ chosenWords job bound ++ drop (wordsNeeded (job .sources)) lent)
-      unfolding answerOf lentOf writtenOf
+          × (lentAfterMap ws lent ≡ chosenWords job bound ++ drop (wordsNeeded (job .sources)) lent)
+      unfolding answerOf lentAfterMap writtenOf
       mapped-writes h = (
         rw e (rw c (rw one (rw (le-ltb (length lent) (wordsNeeded (job .sources)) h) refl))),
         rw e

@@ -20,14 +20,14 @@ use Rattle.fitting.specs.declared.Pair.{Pair}
 use Rattle.fitting.specs.declared.Pair.the-variants as pair
 use Rattle.fitting.specs.declared.Fit.{Fit}
 use Rattle.glue.specs.Glue.{glue}
-use Rattle.checker.specs.Check.{paperOf, Answers, firstUnbound, accountOf, fittingOf, unlessMisfit, judgementOf, ruledOf, rulingOf, Checks}
+use Rattle.checker.specs.Check.{paperOf, CheckRuled, firstUnbound, accountOf, fittingOf, unlessMisfit, judgementOf, ruledOf, rulingOf, Checks}
 use Rattle.checker.specs.declared.Checked.{Checked}
 use Rattle.checker.specs.declared.Checked.the-variants.{Accepted, JobRefused, MappingRefused, Refused, Wrong}
 use Rattle.checker.proofs.Rulings.{right-or-named}
 
 -- a ruling that no refusal without a number meets
 abbrev Numbered : Ruling Checked → Type 0
-Numbered x = (r : Refusal) → r .number ≡ noRefusal → Answers x (Refused r) → ⊥
+Numbered x = (r : Refusal) → r .number ≡ noRefusal → CheckRuled x (Refused r) → ⊥
 
 refuses : (number place : ℕ) → (number ≡ noRefusal → ⊥) → Numbered (Gives (Refused (refusal number place)))
 refuses number place some r none e =

@@ -11,7 +11,7 @@ use Rattle.writer.specs.Write.{wordsNeeded}
 use Rattle.checker.specs.Check.{Checks}
 use Rattle.checker.specs.Check as checker
 use Rattle.checker.specs.declared.Checked.{Checked}
-use Rattle.bench.specs.Calls.{soundBench, holding, opened, openOf, Binds, priceOf, mappingOn, finishOf, lentOf, paperOf}
+use Rattle.bench.specs.Calls.{soundBench, holding, opened, openOf, Binds, priceOf, mappingOn, finishOf, lentAfterFinish, paperOf}
 use Rattle.bench.specs.declared.Bench.{Bench}
 use Rattle.bench.specs.declared.After.{After}
 
@@ -37,5 +37,5 @@ BindsAll b (w ∷ ws) end = (r : After) × (Binds b w r × ((paperOf (r .answer)
 pub record Finishes (ws : List ℕ) (job : Job) (b : Bench) (lent : List ℕ) : Type 0 where
   pub answer : paperOf (finishOf b lent .answer) ≡ accepted (wordsNeeded (job .sources) ∷ [])
   pub bench-after : finishOf b lent .bench ≡ b
-  pub lent-after : lentOf b lent ≡ mappingOn b ++ drop (wordsNeeded (job .sources)) lent
+  pub lent-after : lentAfterFinish b lent ≡ mappingOn b ++ drop (wordsNeeded (job .sources)) lent
   pub accepted-with-job : (r : Checked) → Checks ws (mappingOn b) r → checker.paperOf r ≡ accepted []

@@ -12,7 +12,7 @@ use Rattle.reader.specs.declared.Job.{Job}
 use Rattle.table.specs.Parts.{rulesOf, Terms, termsOf}
 use Rattle.writer.specs.Write.{wordsNeeded}
 use Rattle.mapper.specs.Choose.{serves, Mapped, withRule}
-use Rattle.mapper.specs.Mapping.{choiceOf, chosenWords, answerOf, lentOf, paperOf}
+use Rattle.mapper.specs.Mapping.{choiceOf, chosenWords, answerOf, lentAfterMap, paperOf}
 use Rattle.demands.specs.Mapped.{sourceAt}
 
 -- some rule of the list is usable for the function
@@ -66,4 +66,4 @@ pub record Maps (ws lent : List ℕ) : Type 0 where
   pub choice : choiceOf ws job ≡ Mapped bound
   pub enough : wordsNeeded (job .sources) ≤ length lent
   pub answer : paperOf (answerOf ws lent) ≡ accepted (wordsNeeded (job .sources) ∷ [])
-  pub lent-after : lentOf ws lent ≡ chosenWords job bound ++ drop (wordsNeeded (job .sources)) lent
+  pub lent-after : lentAfterMap ws lent ≡ chosenWords job bound ++ drop (wordsNeeded (job .sources)) lent

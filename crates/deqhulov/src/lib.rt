@@ -16,7 +16,7 @@ pub extern "C" fn deqhulov_map(
     values: &mut [u64],
 ) -> u32
     ensures told { λ r. ⌜ D.Told (M.paperOf (M.answerOf (now (job .entry)) (now (lent .entry)))) r (now (place .exit)) (now (values .entry)) (now (values .exit)) ⌝ }
-    ensures written { λ r. ⌜ now (lent .exit) ≡ M.lentOf (now (job .entry)) (now (lent .entry)) ⌝ }
+    ensures written { λ r. ⌜ now (lent .exit) ≡ M.lentAfterMap (now (job .entry)) (now (lent .entry)) ⌝ }
 {
     let answer = mapper::map(job, lent);
     let report = paper::of_mapping(answer);

@@ -34,7 +34,7 @@ fn take(hex: Hex, byte: u8, words: &mut [u32], count: usize) -> Taken
         Step::Word(word) => {
             words[count] = word;
             Taken {
-                hex: text::hex::none(),
+                hex: text::hex::no_digits(),
                 count: count + 1,
                 bad: false,
             }
@@ -51,7 +51,7 @@ fn take(hex: Hex, byte: u8, words: &mut [u32], count: usize) -> Taken
 fn words_in(bytes: &[u8], words: &mut [u32]) -> usize
     ensures { λ r. ⌜ r ≤ length (now (words .entry)) ⌝ }
 {
-    let mut hex = text::hex::none();
+    let mut hex = text::hex::no_digits();
     let mut count = 0;
     let mut i = 0;
     while i < bytes.len() {

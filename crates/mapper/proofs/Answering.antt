@@ -27,8 +27,8 @@ use Rattle.writer.specs.Write.{mappingWords, writtenOf, lentAfter}
 use Rattle.writer.specs.declared.Written.{Written}
 use Rattle.writer.specs.declared.Written.the-variants as written
 use Rattle.mapper.specs.Choose.{Choice, Mapped, Unmappable, choose}
-use Rattle.mapper.specs.Chosen.{keptAs, KeptChoice, Bound}
-use Rattle.mapper.specs.Mapping.{choiceOf, chosenWords, answerTo, answerFor, answerOf, lentTo, lentFor, lentOf}
+use Rattle.mapper.specs.Chosen.{keptAs, KeptChoice, WritableChoice}
+use Rattle.mapper.specs.Mapping.{choiceOf, chosenWords, answerTo, answerFor, answerOf, lentTo, lentFor, lentAfterMap}
 use Rattle.mapper.specs.declared.choose.Chosen.{Chosen}
 use Rattle.mapper.specs.declared.Answer.{Answer}
 use Rattle.mapper.specs.declared.Answer.the-variants.{Mapping, Refused}
@@ -61,7 +61,7 @@ module _ (ws : List ℕ) (job : Job) (e : WellFormedJob ws job) where
 
 -- ---- the writing
 
-module _ (job : Job) (c : Chosen) (b : Bound job c) where
+module _ (job : Job) (c : Chosen) (b : WritableChoice job c) where
   pub sources-within : job .sources ≤ length (c .words)
   sources-within = omega (arith, b .few, b .size)
 
@@ -101,7 +101,7 @@ module _ (ws : List ℕ) (job : Job) (e : WellFormedJob ws job) (c : Chosen) (k 
   unmapped-lent h = sym (ap (λ (x : Choice). lentTo job x lent) (unmapped h))
 
   module _ (h : not (c .mapped) ≡ false) where
-    pub ready : Bound job c
+    pub ready : WritableChoice job c
     ready =
         record {
           width = job-width ws job e;
@@ -137,8 +137,8 @@ module _ (ws : List ℕ) (r : JobRead) (er : r ≡ jobOf ws) (lent : List ℕ) w
   unfolding answerOf
   job-refused x u = rw (sym er ∙ u) refl
 
-  pub job-refused-lent : (x : Refusal) → r ≡ read.Refused x → lent ≡ lentOf ws lent
-  unfolding lentOf
+  pub job-refused-lent : (x : Refusal) → r ≡ read.Refused x → lent ≡ lentAfterMap ws lent
+  unfolding lentAfterMap
   job-refused-lent x u = rw (sym er ∙ u) refl
 
   module _ (job : Job) (u : r ≡ read.Accepted job) where
@@ -149,6 +149,6 @@ module _ (ws : List ℕ) (r : JobRead) (er : r ≡ jobOf ws) (lent : List ℕ) w
     unfolding answerOf
     job-answered a ea = ea ∙ sym (ap (λ (x : JobRead). answerFor ws x lent) (sym er ∙ u))
 
-    pub job-lent : (after : List ℕ) → after ≡ lentTo job (choiceOf ws job) lent → after ≡ lentOf ws lent
-    unfolding lentOf
+    pub job-lent : (after : List ℕ) → after ≡ lentTo job (choiceOf ws job) lent → after ≡ lentAfterMap ws lent
+    unfolding lentAfterMap
     job-lent after ea = ea ∙ sym (ap (λ (x : JobRead). lentFor ws x lent) (sym er ∙ u))

@@ -22,7 +22,7 @@ use Rattle.usage.specs.Sets.{usage, usageOf}
 use Rattle.usage.proofs.Joining.{usage-more}
 use Rattle.glue.specs.Parts.{setCount}
 use Rattle.glue.proofs.Joining.{glue-more}
-use Rattle.mapper.specs.Choose.{usable, serves, none, beats, better, bestOf, Choice, Mapped, Unmappable, withRule, choose}
+use Rattle.mapper.specs.Choose.{usable, serves, noRule, beats, better, bestOf, Choice, Mapped, Unmappable, withRule, choose}
 use Rattle.mapper.specs.Chosen.{besides}
 use Rattle.mapper.specs.declared.choose.Best.{Best}
 
@@ -101,12 +101,12 @@ module _ (j : Job) (ss ts rules sources words : List ℕ) (i used : ℕ) (whole 
   t = termsWith j ss ts
 
   module _ (h : i < length sources) (f : ℕ) (ef : f ≡ sourceFunction (getD sources i 0)) (best : Best)
-      (eb : best ≡ bestOf (besides (j .width) (j .prices) used) (termsWith j ss ts) f none rules) where
-    best-is : bestOf (withRule t (take i words)) t (sourceFunction (getD sources i 0)) none rules ≡ best
+      (eb : best ≡ bestOf (besides (j .width) (j .prices) used) (termsWith j ss ts) f noRule rules) where
+    best-is : bestOf (withRule t (take i words)) t (sourceFunction (getD sources i 0)) noRule rules ≡ best
     best-is =
         best-same t (sourceFunction (getD sources i 0)) (withRule t (take i words)) (besides (j .width) (j .prices) used)
-        (λ w. sym (glue-more (j .width) (j .prices) (take i words) w) ∙ ap (λ (x : ℕ). besides (j .width) (j .prices) x w) (sym eu)) none rules
-        ∙ ap (λ (x : ℕ). bestOf (besides (j .width) (j .prices) used) t x none rules) (sym ef) ∙ sym eb
+        (λ w. sym (glue-more (j .width) (j .prices) (take i words) w) ∙ ap (λ (x : ℕ). besides (j .width) (j .prices) x w) (sym eu)) noRule rules
+        ∙ ap (λ (x : ℕ). bestOf (besides (j .width) (j .prices) used) t x noRule rules) (sym ef) ∙ sym eb
 
     opened : (if best .found then choose t rules (take i words ++ best .word ∷ []) (drop (i + 1) sources) else Unmappable f) ≡ whole
     unfolding choose

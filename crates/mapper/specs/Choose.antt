@@ -22,8 +22,8 @@ unfoldable pub serves : Terms → ℕ → ℕ → Bool
 serves t f w = eqb (sourceOf w) f && usable t w
 
 -- no rule yet
-abbrev pub none : Best
-none = record { found = false; word = 0; total = 0 }
+abbrev pub noRule : Best
+noRule = record { found = false; word = 0; total = 0 }
 
 -- a rule that makes this glue is better than the best so far: "least, the earlier rule on equal glue"
 unfoldable pub beats : Best → ℕ → Bool
@@ -54,5 +54,5 @@ withRule t bound w = glue (t .width) (t .prices) (bound ++ w ∷ [])
 unfoldable pub choose : Terms → List ℕ → List ℕ → List ℕ → Choice
 choose t rules bound [] = Mapped bound
 choose t rules bound (s ∷ ss) =
-    let best = bestOf (withRule t bound) t (sourceFunction s) none rules in
+    let best = bestOf (withRule t bound) t (sourceFunction s) noRule rules in
     if best .found then choose t rules (bound ++ best .word ∷ []) ss else Unmappable (sourcePlace (sourceFunction s))

@@ -30,7 +30,7 @@ pub record KeptChoice (c : Chosen) (sources : ℕ) (choice : Choice) : Type 0 wh
   pub uses : c .mapped ≡ true → c .used ≡ usage (take sources (c .words))
 
 -- what the writing of a choice asks of its caller
-pub record Bound (job : Job) (c : Chosen) : Type 0 where
+pub record WritableChoice (job : Job) (c : Chosen) : Type 0 where
   pub width : Width (job .width)
   pub few : job .sources ≤ mostSources
   pub size : length (c .words) ≡ mostSources

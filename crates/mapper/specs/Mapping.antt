@@ -27,14 +27,14 @@ chosenWords job bound = mappingWords (job .width) bound (glueOf job bound)
 -- ---- the answer
 
 -- "23. Lent words fewer than sources + 2; place: words needed. Last"
-abbrev pub afterWriting : Written → Answer
-afterWriting (written.Refused r) = Refused r
-afterWriting (written.Words n) = Mapping n
+abbrev pub mapWritten : Written → Answer
+mapWritten (written.Refused r) = Refused r
+mapWritten (written.Words n) = Mapping n
 
 -- "12. Unmappable; place: lowest function without a usable rule."
 abbrev pub answerTo : Choice → List ℕ → Answer
 answerTo (Unmappable place) lent = Refused (refusal 12 place)
-answerTo (Mapped bound) lent = afterWriting (writtenOf (length bound) lent)
+answerTo (Mapped bound) lent = mapWritten (writtenOf (length bound) lent)
 
 abbrev pub answerFor : List ℕ → JobRead → List ℕ → Answer
 answerFor ws (read.Refused r) lent = Refused r
@@ -53,8 +53,8 @@ abbrev pub lentFor : List ℕ → JobRead → List ℕ → List ℕ
 lentFor ws (read.Refused r) lent = lent
 lentFor ws (read.Accepted job) lent = lentTo job (choiceOf ws job) lent
 
-unfoldable pub lentOf : List ℕ → List ℕ → List ℕ
-lentOf ws lent = lentFor ws (jobOf ws) lent
+unfoldable pub lentAfterMap : List ℕ → List ℕ → List ℕ
+lentAfterMap ws lent = lentFor ws (jobOf ws) lent
 
 -- the answer in document 01's numbers
 abbrev pub paperOf : Answer → Paper

@@ -32,7 +32,7 @@ fn choice_of(job: Job, words: &[u32]) -> Chosen
 
 // Writes the mapping that binds by the chosen rules.
 fn write_chosen(job: Job, chosen: Chosen, lent: &mut [u32]) -> Written
-    requires { ⌜ K.Bound job chosen ⌝ }
+    requires { ⌜ K.WritableChoice job chosen ⌝ }
     ensures answer { λ r. ⌜ r ≡ W.writtenOf (job .sources) (now (lent .entry)) ⌝ }
     ensures written { λ r. ⌜ now (lent .exit) ≡ W.lentAfter (M.chosenWords job (take (job .sources) (chosen .words))) (now (lent .entry)) ⌝ }
 {
@@ -67,7 +67,7 @@ fn map_read(job: Job, words: &[u32], lent: &mut [u32]) -> Answer
 // Maps a job into lent words. Refused, it leaves every lent word as it was.
 pub fn map(words: &[u32], lent: &mut [u32]) -> Answer
     ensures answer { λ r. ⌜ r ≡ M.answerOf (now (words .entry)) (now (lent .entry)) ⌝ }
-    ensures written { λ r. ⌜ now (lent .exit) ≡ M.lentOf (now (words .entry)) (now (lent .entry)) ⌝ }
+    ensures written { λ r. ⌜ now (lent .exit) ≡ M.lentAfterMap (now (words .entry)) (now (lent .entry)) ⌝ }
 {
     let read = reader::read_job(words);
     match read {

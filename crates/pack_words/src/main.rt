@@ -46,7 +46,7 @@ fn next(hex: Hex, byte: u8, at: usize) -> Progress
         Step::Word(word) => {
             write_word(word);
             Progress {
-                hex: text::hex::none(),
+                hex: text::hex::no_digits(),
                 bytes: at + 1,
                 ended: false,
             }
@@ -125,7 +125,7 @@ fn take_some(hex: Hex, at: usize) -> Progress
 const MOST: usize = 2305843009213693952;
 
 fn main() {
-    let mut now = text::hex::none();
+    let mut now = text::hex::no_digits();
     let mut bytes = 0;
     while bytes < MOST {
         let progress = take_some(now, bytes);

@@ -25,13 +25,13 @@ glue-counted j ws u eu r er =
     er .0 ∙ ap (setCount (j .width) (j .prices)) eu ∙ price-is-glue (j .width) (j .prices) ws
 
 module _ (j : Job) (ss ts : List ℕ) (m : Mapping) (ws : List ℕ) (f : Fit) (e : f ≡ fitOf (termsWith j ss ts) m ws) where
-  by-fit : (g : Fit) → f ≡ g → pricedUnder j ss ts m ws ≡ counted g (glueOf j ws)
+  by-fit : (g : Fit) → f ≡ g → pricedUnder (termsWith j ss ts) m ws ≡ counted g (glueOf j ws)
   by-fit g u = ap (λ (x : Fit). counted x (glueOf j ws)) (sym e ∙ u)
 
-  pub misfit : (x : Refusal) → f ≡ Misfit x → Refused x ≡ pricedUnder j ss ts m ws
+  pub misfit : (x : Refusal) → f ≡ Misfit x → Refused x ≡ pricedUnder (termsWith j ss ts) m ws
   misfit x u = sym (by-fit (Misfit x) u)
 
-  pub fit-counted : f ≡ Fits → (c : ℕ) → c ≡ glueOf j ws → Count c ≡ pricedUnder j ss ts m ws
+  pub fit-counted : f ≡ Fits → (c : ℕ) → c ≡ glueOf j ws → Count c ≡ pricedUnder (termsWith j ss ts) m ws
   fit-counted u c ec = ap Count ec ∙ sym (by-fit Fits u)
 
 module _ (jw mw : List ℕ) (p : Pair) (e : p ≡ pairOf jw mw) where
@@ -46,5 +46,5 @@ module _ (jw mw : List ℕ) (p : Pair) (e : p ≡ pairOf jw mw) where
   bad-mapping x u = by-pair (pair.MappingRefused x) u
 
   pub both-priced : (j : Job) (m : Mapping) → p ≡ pair.Read j m → (ss ts ws : List ℕ) → ss ≡ sourcesOf jw j → ts ≡ targetsOf jw j
-      → ws ≡ bindingsOf mw m → (r : Priced) → r ≡ pricedUnder j ss ts m ws → r ≡ pricingOf jw mw
+      → ws ≡ bindingsOf mw m → (r : Priced) → r ≡ pricedUnder (termsWith j ss ts) m ws → r ≡ pricingOf jw mw
   both-priced j m u ss ts ws es et ew r er = er ∙ rw (es, et, ew) (by-pair (pair.Read j m) u)

@@ -5,7 +5,7 @@ use mathlib.Core.List.{List, [], _∷_}
 use Rattle.words.specs.Paper.{Paper, accepted, told, toldOfJob, toldOfMapping}
 use Rattle.reader.specs.declared.Job.{Job}
 use Rattle.reader.specs.declared.Mapping.{Mapping}
-use Rattle.table.specs.Parts.{sourcesOf, targetsOf, bindingsOf, termsWith}
+use Rattle.table.specs.Parts.{bindingsOf, Terms, termsOf}
 use Rattle.fitting.specs.Pair.{pairOf}
 use Rattle.fitting.specs.Fitting.{fitOf}
 use Rattle.fitting.specs.declared.Pair.{Pair}
@@ -24,16 +24,15 @@ abbrev pub counted : Fit → ℕ → Priced
 counted (Misfit r) count = Refused r
 counted Fits count = Count count
 
--- a mapping that was read, under a job that was read
-abbrev pub pricedUnder : Job → List ℕ → List ℕ → Mapping → List ℕ → Priced
-pricedUnder job sources targets mapping bindings =
-    counted (fitOf (termsWith job sources targets) mapping bindings) (glueOf job bindings)
+-- a mapping that was read, under the terms of a job that was read
+abbrev pub pricedUnder : Terms → Mapping → List ℕ → Priced
+pricedUnder t mapping bindings = counted (fitOf t mapping bindings) (glue (t .width) (t .prices) bindings)
 
 abbrev pub pricedPair : List ℕ → List ℕ → Pair → Priced
 pricedPair jobWords mappingWords (pair.JobRefused r) = JobRefused r
 pricedPair jobWords mappingWords (pair.MappingRefused r) = MappingRefused r
 pricedPair jobWords mappingWords (pair.Read job mapping) =
-    pricedUnder job (sourcesOf jobWords job) (targetsOf jobWords job) mapping (bindingsOf mappingWords mapping)
+    pricedUnder (termsOf jobWords job) mapping (bindingsOf mappingWords mapping)
 
 -- "1 first; then word by word, 2 to 6 in each; then 7 to 11"
 unfoldable pub pricingOf : List ℕ → List ℕ → Priced

@@ -6,6 +6,7 @@ use reader::Mapping;
 use words::Refusal;
 ghost use mathlib.Core.Path.{_≡_};
 ghost use Rattle.alu.specs.Asked as Q;
+ghost use Rattle.table.specs.Parts as T;
 ghost use Rattle.pricer.specs.Pricing as P;
 
 // The glue count of a mapping's bindings; or the first refusal, of the job or of the mapping by itself, or of the mapping as the
@@ -36,7 +37,7 @@ fn price_under(
     bindings: &[u32],
 ) -> Priced
     requires { ⌜ Q.Width (job .width) ⌝ }
-    ensures { λ r. ⌜ r ≡ P.pricedUnder job (now (sources .entry)) (now (targets .entry)) mapping (now (bindings .entry)) ⌝ }
+    ensures { λ r. ⌜ r ≡ P.pricedUnder (T.termsWith job (now (sources .entry)) (now (targets .entry))) mapping (now (bindings .entry)) ⌝ }
 {
     let fit = fitting::fit_of(job, sources, targets, mapping, bindings);
     match fit {

@@ -8,8 +8,8 @@ use borrow.Author.Tests.{lt-ltb, le-ltb}
 use Rattle.words.specs.Paper.{refusal}
 use Rattle.words.specs.declared.Refusal.{Refusal}
 use Rattle.reader.specs.Limits.{mostJobWords}
-use Rattle.reader.specs.Reading.{nothing, reading}
-use Rattle.reader.specs.Job.{factsOf, ended, jobOf}
+use Rattle.reader.specs.Reading.{beginning, reading}
+use Rattle.reader.specs.Job.{jobFacts, jobEnded, jobOf}
 use Rattle.reader.specs.declared.sequence.File.the-variants.{AsJob}
 use Rattle.reader.specs.declared.sequence.State.{State}
 use Rattle.reader.specs.declared.step.Reading.{Reading}
@@ -28,21 +28,21 @@ module _ (ws : List ℕ) where
   unfolding jobOf
   many-words h = many mostJobWords (length ws) (Refused (refusal 1 0)) _ (omega arith) h
 
-  module _ (r : Reading) (e : r ≡ reading AsJob nothing 0 ws) (some : 1 ≤ length ws) (few : length ws ≤ mostJobWords) where
-    by-reading : jobOf ws ≡ ended ws r
+  module _ (r : Reading) (e : r ≡ reading AsJob beginning 0 ws) (some : 1 ≤ length ws) (few : length ws ≤ mostJobWords) where
+    by-reading : jobOf ws ≡ jobEnded ws r
     unfolding jobOf
-    by-reading = between mostJobWords (length ws) (Refused (refusal 1 0)) _ some few ∙ ap (ended ws) (sym e)
+    by-reading = between mostJobWords (length ws) (Refused (refusal 1 0)) _ some few ∙ ap (jobEnded ws) (sym e)
 
     pub stopped : (x : Refusal) → r ≡ Stopped x → Refused x ≡ jobOf ws
-    stopped x p = sym (by-reading ∙ ap (ended ws) p)
+    stopped x p = sym (by-reading ∙ ap (jobEnded ws) p)
 
     module _ (s : State) (p : r ≡ Passed s) where
       pub ended-early : s .sources < 1 → Refused (refusal 2 (length ws)) ≡ jobOf ws
-      ended-early h = sym (by-reading ∙ ap (ended ws) p ∙ rw (lt-ltb (s .sources) 1 h) refl)
+      ended-early h = sym (by-reading ∙ ap (jobEnded ws) p ∙ rw (lt-ltb (s .sources) 1 h) refl)
 
       module _ (h : 1 ≤ s .sources) where
         pub prices-there : 1 < length ws
         prices-there = omega (arith, two-words ws s (sym e ∙ p) h)
 
-        pub accepted : (job : Job) → job ≡ factsOf (getD ws 0 0) (getD ws 1 0) s → Accepted job ≡ jobOf ws
-        accepted job u = sym (by-reading ∙ ap (ended ws) p ∙ rw (le-ltb (s .sources) 1 h) (ap Accepted (sym u)))
+        pub accepted : (job : Job) → job ≡ jobFacts (getD ws 0 0) (getD ws 1 0) s → Accepted job ≡ jobOf ws
+        accepted job u = sym (by-reading ∙ ap (jobEnded ws) p ∙ rw (le-ltb (s .sources) 1 h) (ap Accepted (sym u)))

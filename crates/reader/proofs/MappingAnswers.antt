@@ -9,8 +9,8 @@ use Rattle.words.specs.Kinds.{GLUE}
 use Rattle.words.specs.Paper.{refusal}
 use Rattle.words.specs.declared.Refusal.{Refusal}
 use Rattle.reader.specs.Limits.{mostMappingWords}
-use Rattle.reader.specs.Reading.{nothing, reading}
-use Rattle.reader.specs.Mapping.{factsOf, ended, mappingOf}
+use Rattle.reader.specs.Reading.{beginning, reading}
+use Rattle.reader.specs.Mapping.{mappingFacts, mappingEnded, mappingOf}
 use Rattle.reader.specs.declared.sequence.File.the-variants.{AsMapping}
 use Rattle.reader.specs.declared.sequence.State.{State}
 use Rattle.reader.specs.declared.step.Reading.{Reading}
@@ -28,18 +28,18 @@ module _ (ws : List ℕ) where
   unfolding mappingOf
   many-words h = many mostMappingWords (length ws) (Refused (refusal 1 0)) _ (omega arith) h
 
-  module _ (r : Reading) (e : r ≡ reading AsMapping nothing 0 ws) (some : 1 ≤ length ws) (few : length ws ≤ mostMappingWords) where
-    pub by-reading : mappingOf ws ≡ ended ws r
+  module _ (r : Reading) (e : r ≡ reading AsMapping beginning 0 ws) (some : 1 ≤ length ws) (few : length ws ≤ mostMappingWords) where
+    pub by-reading : mappingOf ws ≡ mappingEnded ws r
     unfolding mappingOf
-    by-reading = between mostMappingWords (length ws) (Refused (refusal 1 0)) _ some few ∙ ap (ended ws) (sym e)
+    by-reading = between mostMappingWords (length ws) (Refused (refusal 1 0)) _ some few ∙ ap (mappingEnded ws) (sym e)
 
     pub stopped : (x : Refusal) → r ≡ Stopped x → Refused x ≡ mappingOf ws
-    stopped x p = sym (by-reading ∙ ap (ended ws) p)
+    stopped x p = sym (by-reading ∙ ap (mappingEnded ws) p)
 
     module _ (s : State) (p : r ≡ Passed s) where
       pub ended-early : (s .stage ≡ GLUE → ⊥) → Refused (refusal 2 (length ws)) ≡ mappingOf ws
-      ended-early h = sym (by-reading ∙ ap (ended ws) p ∙ rw (ne-eqb (s .stage) GLUE h) refl)
+      ended-early h = sym (by-reading ∙ ap (mappingEnded ws) p ∙ rw (ne-eqb (s .stage) GLUE h) refl)
 
-      pub accepted : (mapping : Mapping) → s .stage ≡ GLUE → mapping ≡ factsOf (getD ws 0 0) (getD ws (length ws - 1) 0) s
+      pub accepted : (mapping : Mapping) → s .stage ≡ GLUE → mapping ≡ mappingFacts (getD ws 0 0) (getD ws (length ws - 1) 0) s
           → Accepted mapping ≡ mappingOf ws
-      accepted mapping h u = sym (by-reading ∙ ap (ended ws) p ∙ rw (eq-eqb (s .stage) GLUE h) (ap Accepted (sym u)))
+      accepted mapping h u = sym (by-reading ∙ ap (mappingEnded ws) p ∙ rw (eq-eqb (s .stage) GLUE h) (ap Accepted (sym u)))

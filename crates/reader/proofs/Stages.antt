@@ -12,7 +12,7 @@ use Rattle.words.specs.Kinds.{HEADER, PRICES, SOURCE, TARGET, RULE}
 use Rattle.words.proofs.Choices.{either, and-split, or-split}
 use Rattle.reader.specs.Limits.{mostSources, mostTargets, mostRules}
 use Rattle.reader.specs.Sequence.{START, jobSequence, inSequence}
-use Rattle.reader.specs.Reading.{nothing, noted, after, functionIn, reading}
+use Rattle.reader.specs.Reading.{beginning, noted, after, functionIn, reading}
 use Rattle.reader.specs.declared.sequence.File.the-variants.{AsJob}
 use Rattle.reader.specs.declared.sequence.State.{State}
 use Rattle.reader.specs.declared.step.Reading.the-variants.{Passed}
@@ -78,7 +78,7 @@ behind-more s i w g q =
     two : {t : State} → 2 ≤ i → Behind t (i + 1)
     two h = record { header = λ _. omega arith; prices = λ _. omega arith; sources = λ _. omega arith }
 
-pub two-words : (ws : List ℕ) (s : State) → reading AsJob nothing 0 ws ≡ Passed s → 1 ≤ s .sources → 2 ≤ length ws
+pub two-words : (ws : List ℕ) (s : State) → reading AsJob beginning 0 ws ≡ Passed s → 1 ≤ s .sources → 2 ≤ length ws
 two-words ws s e h =
-    passed AsJob ws Behind (λ t i _. behind-more t i (getD ws i 0)) (length ws) 0 nothing s (omega arith)
+    passed AsJob ws Behind (λ t i _. behind-more t i (getD ws i 0)) (length ws) 0 beginning s (omega arith)
     (record { header = λ l. absurd (omega arith); prices = λ l. absurd (omega arith); sources = λ l. absurd (omega arith) }) e .sources h

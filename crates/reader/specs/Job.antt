@@ -9,7 +9,7 @@ use Rattle.words.specs.Field.{field}
 use Rattle.words.specs.Paper.{Paper, refusal, accepted, told}
 use Rattle.words.specs.declared.Prices.{Prices}
 use Rattle.reader.specs.Limits.{mostJobWords}
-use Rattle.reader.specs.Reading.{reading, nothing}
+use Rattle.reader.specs.Reading.{reading, beginning}
 use Rattle.reader.specs.declared.sequence.File.the-variants.{AsJob}
 use Rattle.reader.specs.declared.sequence.State.{State}
 use Rattle.reader.specs.declared.step.Reading.{Reading}
@@ -23,8 +23,8 @@ abbrev pub pricesIn : ℕ → Prices
 pricesIn w = record { inverter = field w 16 8; gate = field w 8 8; multiplexer = field w 0 8 }
 
 -- what a header, with "bits 6..0 width", a word of prices and the words behind them say
-abbrev pub factsOf : ℕ → ℕ → State → Job
-factsOf header prices s =
+abbrev pub jobFacts : ℕ → ℕ → State → Job
+jobFacts header prices s =
     record {
       width = field header 0 7;
       prices = pricesIn prices;
@@ -34,17 +34,17 @@ factsOf header prices s =
     }
 
 -- the words passed one by one; "or file ended early (place: word count)": a job has "1 to 27 sources"
-abbrev pub ended : List ℕ → Reading → JobRead
-ended ws (Stopped r) = Refused r
-ended ws (Passed s) =
-    if ltb (s .sources) 1 then Refused (refusal 2 (length ws)) else Accepted (factsOf (getD ws 0 0) (getD ws 1 0) s)
+abbrev pub jobEnded : List ℕ → Reading → JobRead
+jobEnded ws (Stopped r) = Refused r
+jobEnded ws (Passed s) =
+    if ltb (s .sources) 1 then Refused (refusal 2 (length ws)) else Accepted (jobFacts (getD ws 0 0) (getD ws 1 0) s)
 
 -- "1. No words, over 568 in a job ..; place 0." "1 first; then word by word, 2 to 6 in each"
 unfoldable pub jobOf : List ℕ → JobRead
 jobOf ws =
     if ltb (length ws) 1 then Refused (refusal 1 0)
     else if ltb mostJobWords (length ws) then Refused (refusal 1 0)
-    else ended ws (reading AsJob nothing 0 ws)
+    else jobEnded ws (reading AsJob beginning 0 ws)
 
 -- "A job .. is well formed if none of 1 to 6 below holds of its words": it then says this
 abbrev pub WellFormedJob : List ℕ → Job → Type 0

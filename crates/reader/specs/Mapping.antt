@@ -10,7 +10,7 @@ use Rattle.words.specs.Field.{field}
 use Rattle.words.specs.Kinds.{GLUE}
 use Rattle.words.specs.Paper.{Paper, refusal, accepted, told}
 use Rattle.reader.specs.Limits.{mostMappingWords}
-use Rattle.reader.specs.Reading.{reading, nothing}
+use Rattle.reader.specs.Reading.{reading, beginning}
 use Rattle.reader.specs.declared.sequence.File.the-variants.{AsMapping}
 use Rattle.reader.specs.declared.sequence.State.{State}
 use Rattle.reader.specs.declared.step.Reading.{Reading}
@@ -20,22 +20,22 @@ use Rattle.reader.specs.declared.MappingRead.{MappingRead}
 use Rattle.reader.specs.declared.MappingRead.the-variants.{Accepted, Refused}
 
 -- "bits 6..0 width", "bits 27..0 glue count", which is the last word
-abbrev pub factsOf : ℕ → ℕ → State → Mapping
-factsOf header last s = record { width = field header 0 7; bindings = s .bindings; glue = field last 0 28 }
+abbrev pub mappingFacts : ℕ → ℕ → State → Mapping
+mappingFacts header last s = record { width = field header 0 7; bindings = s .bindings; glue = field last 0 28 }
 
 -- the words passed one by one; "or file ended early (place: word count)": a mapping ends in its glue count
-abbrev pub ended : List ℕ → Reading → MappingRead
-ended ws (Stopped r) = Refused r
-ended ws (Passed s) =
+abbrev pub mappingEnded : List ℕ → Reading → MappingRead
+mappingEnded ws (Stopped r) = Refused r
+mappingEnded ws (Passed s) =
     if not (eqb (s .stage) GLUE) then Refused (refusal 2 (length ws))
-    else Accepted (factsOf (getD ws 0 0) (getD ws (length ws - 1) 0) s)
+    else Accepted (mappingFacts (getD ws 0 0) (getD ws (length ws - 1) 0) s)
 
 -- "1. No words, .. or over 29 in a mapping; place 0." "1 first; then word by word, 2 to 6 in each"
 unfoldable pub mappingOf : List ℕ → MappingRead
 mappingOf ws =
     if ltb (length ws) 1 then Refused (refusal 1 0)
     else if ltb mostMappingWords (length ws) then Refused (refusal 1 0)
-    else ended ws (reading AsMapping nothing 0 ws)
+    else mappingEnded ws (reading AsMapping beginning 0 ws)
 
 -- "A .. mapping is well formed if none of 1 to 6 below holds of its words": it then says this
 abbrev pub WellFormedMapping : List ℕ → Mapping → Type 0

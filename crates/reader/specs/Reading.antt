@@ -81,8 +81,8 @@ wordFault file s w =
     else noRefusal
 
 -- before the first word
-abbrev pub nothing : State
-nothing = record { stage = START; function = noFunction; sources = 0; targets = 0; rules = 0; bindings = 0 }
+abbrev pub beginning : State
+beginning = record { stage = START; function = noFunction; sources = 0; targets = 0; rules = 0; bindings = 0 }
 
 abbrev pub raised : ℕ → Bool → ℕ
 raised count true = count + 1

@@ -66,7 +66,7 @@ pub enum MappingRead {
 // Word by word: the state after the last one, or the first refusal.
 fn read_words(file: File, words: &[u32]) -> Reading
     requires { ⌜ length (now words) ≤ L.mostJobWords ⌝ }
-    ensures { λ r. ⌜ r ≡ R.reading file R.nothing 0 (now (words .entry)) ⌝ }
+    ensures { λ r. ⌜ r ≡ R.reading file R.beginning 0 (now (words .entry)) ⌝ }
 {
     let mut s = State {
         stage: START,
@@ -104,7 +104,7 @@ fn prices_in(word: u32) -> Prices
 }
 
 fn job_facts(header: u32, prices: u32, s: State) -> Job
-    ensures { λ r. ⌜ r ≡ J.factsOf header prices s ⌝ }
+    ensures { λ r. ⌜ r ≡ J.jobFacts header prices s ⌝ }
 {
     let prices = prices_in(prices);
     Job {
@@ -147,7 +147,7 @@ pub fn read_job(words: &[u32]) -> JobRead
 }
 
 fn mapping_facts(header: u32, last: u32, s: State) -> Mapping
-    ensures { λ r. ⌜ r ≡ M.factsOf header last s ⌝ }
+    ensures { λ r. ⌜ r ≡ M.mappingFacts header last s ⌝ }
 {
     Mapping {
         width: header & 0x7f,

@@ -20,12 +20,12 @@ unfoldable pub parts : ℕ → Bool
 parts b = if eqb b 32 then true else eqb b 10
 
 -- between two words
-abbrev pub none : Hex
-none = record { digits = 0; value = 0 }
+abbrev pub noDigits : Hex
+noDigits = record { digits = 0; value = 0 }
 
 -- what a gap ends: nothing, a word of eight digits, or one that is too short
 unfoldable pub ended : Hex → Step
-ended h = if eqb (h .digits) 0 then More none else if eqb (h .digits) 8 then Word (h .value) else Bad
+ended h = if eqb (h .digits) 0 then More noDigits else if eqb (h .digits) 8 then Word (h .value) else Bad
 
 -- a digit more; there is none past the eighth, and seven digits are below 2 ^ 28
 unfoldable pub extended : Hex → ℕ → Step

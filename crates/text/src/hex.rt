@@ -16,8 +16,8 @@ pub enum Step {
 }
 
 // Between two words.
-pub fn none() -> Hex
-    ensures { λ r. ⌜ r ≡ T.none ⌝ }
+pub fn no_digits() -> Hex
+    ensures { λ r. ⌜ r ≡ T.noDigits ⌝ }
 {
     Hex {
         digits: 0,
@@ -64,7 +64,7 @@ pub fn ended(hex: Hex) -> Step
     ensures { λ r. ⌜ r ≡ T.ended hex ⌝ }
 {
     if hex.digits == 0 {
-        return Step::More(none());
+        return Step::More(no_digits());
     }
     if hex.digits == 8 {
         return Step::Word(hex.value);

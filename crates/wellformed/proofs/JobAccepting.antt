@@ -8,7 +8,7 @@ use lib.Seq.{getD-append-add}
 use Rattle.words.specs.Field.{field, kindOf, contentOf}
 use Rattle.words.specs.Kinds.{HEADER, PRICES, SOURCE, TARGET}
 use Rattle.reader.specs.Limits.{mostSources, mostTargets, rulesStart}
-use Rattle.reader.specs.Reading.{nothing, after, reading}
+use Rattle.reader.specs.Reading.{beginning, after, reading}
 use Rattle.reader.specs.Job.{WellFormedJob}
 use Rattle.reader.specs.declared.sequence.File.the-variants.{AsJob}
 use Rattle.reader.specs.declared.sequence.State.{State}
@@ -25,15 +25,15 @@ use Rattle.wellformed.proofs.JobParts.{Reaches, InSources, InTargets, I
 
 module _ (ws : List ℕ) (job : Job) (q : JobFacts ws job) where
   -- after the header and the prices
-  at-tables : Reaches ws (InSources ws 0) nothing 0 2
+  at-tables : Reaches ws (InSources ws 0) beginning 0 2
   at-tables =
       let h = getD ws 0 0 in
       let p = getD ws 1 0 in
       let k = q .prices-kind in
-      let a = passes AsJob ws nothing 0 (omega (arith, q .size)) (free-header nothing h refl (q .header-kind) (omega arith) (omega arith)) in
-      let b = passes AsJob ws (after nothing h) 1 (omega (arith, q .size)) (free-prices (after nothing h) p (q .header-kind) k (omega arith)) in
+      let a = passes AsJob ws beginning 0 (omega (arith, q .size)) (free-header beginning h refl (q .header-kind) (omega arith) (omega arith)) in
+      let b = passes AsJob ws (after beginning h) 1 (omega (arith, q .size)) (free-prices (after beginning h) p (q .header-kind) k (omega arith)) in
       record {
-        end = after (after nothing h) p;
+        end = after (after beginning h) p;
         read = a ∙ b;
         holds = record {
           least = rw k (omega arith);
@@ -42,7 +42,7 @@ module _ (ws : List ℕ) (job : Job) (q : JobFacts ws job) where
           sources = rw (k, q .header-kind) refl;
           targets = rw (k, q .header-kind) refl;
           rules = rw (k, q .header-kind) refl;
-          order = λ v kv _. sym (first-of-kind (after (after nothing h) p) v (kindOf v) refl (λ e. omega arith) (λ e. omega arith));
+          order = λ v kv _. sym (first-of-kind (after (after beginning h) p) v (kindOf v) refl (λ e. omega arith) (λ e. omega arith));
         };
       }
 

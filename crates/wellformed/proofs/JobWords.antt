@@ -13,8 +13,8 @@ use Rattle.words.specs.Kinds.{HEADER, PRICES, SOURCE, TARGET, RULE}
 use Rattle.words.specs.declared.Refusal.{Refusal}
 use Rattle.reader.specs.Limits.{mostSources, mostTargets, mostRules, mostJobWords, sourcesStart, targetsStart, rulesStart}
 use Rattle.reader.specs.Sequence.{inSequence}
-use Rattle.reader.specs.Reading.{nothing, noted, after, functionIn, reading}
-use Rattle.reader.specs.Job.{factsOf, ended, jobOf, WellFormedJob}
+use Rattle.reader.specs.Reading.{beginning, noted, after, functionIn, reading}
+use Rattle.reader.specs.Job.{jobFacts, jobEnded, jobOf, WellFormedJob}
 use Rattle.reader.specs.declared.sequence.File.the-variants.{AsJob}
 use Rattle.reader.specs.declared.sequence.State.{State}
 use Rattle.reader.specs.declared.step.Reading.{Reading}
@@ -53,7 +53,7 @@ record Held (ws : List ℕ) (s : State) (i : ℕ) : Type 0 where
   rule-words : Each (RecipeWord RULE) ws (2 + s .sources + s .targets) (s .rules)
 
 module _ (ws : List ℕ) where
-  held-none : Held ws nothing 0
+  held-none : Held ws beginning 0
   held-none =
       record {
         counts = omega arith;
@@ -185,7 +185,7 @@ prices-whole : (w : ℕ) → contentOf w < 2 ^ 24 → contentOf w ≡ field w 16
 prices-whole w h = omega arith
 
 from-held : (ws : List ℕ) (s : State) → 1 ≤ s .sources → Held ws s (length ws)
-    → JobFacts ws (factsOf (getD ws 0 0) (getD ws 1 0) s)
+    → JobFacts ws (jobFacts (getD ws 0 0) (getD ws 1 0) s)
 from-held ws s h q =
     let header = q .header (omega arith) in
     let prices = q .prices (omega arith) in
@@ -220,18 +220,18 @@ apart : {Q : Type 0} (r : Refusal) (job : Job) → Refused r ≡ Accepted job �
 apart r job e = let z : _≡_ {A = ℕ} 0 1 = cc in absurd (omega arith)
 
 -- what the words hold once all have passed
-pub all-held : (ws : List ℕ) (s : State) → reading AsJob nothing 0 ws ≡ Passed s → 1 ≤ s .sources
-    → JobFacts ws (factsOf (getD ws 0 0) (getD ws 1 0) s)
+pub all-held : (ws : List ℕ) (s : State) → reading AsJob beginning 0 ws ≡ Passed s → 1 ≤ s .sources
+    → JobFacts ws (jobFacts (getD ws 0 0) (getD ws 1 0) s)
 all-held ws s e h =
     from-held ws s h
-    (passed AsJob ws (Held ws) (λ t i _. held-more ws t i) (length ws) 0 nothing s (omega arith) (held-none ws) e)
+    (passed AsJob ws (Held ws) (λ t i _. held-more ws t i) (length ws) 0 beginning s (omega arith) (held-none ws) e)
 
 module _ (ws : List ℕ) (job : Job) where
-  once-read : (r : Reading) → reading AsJob nothing 0 ws ≡ r → ended ws r ≡ Accepted job → JobFacts ws job
+  once-read : (r : Reading) → reading AsJob beginning 0 ws ≡ r → jobEnded ws r ≡ Accepted job → JobFacts ws job
   once-read (Passed s) e =
       either (λ j. j ≡ Accepted job → JobFacts ws job) (ltb (s .sources) 1)
       (λ _. apart _ job)
-      (λ h a. let u : factsOf (getD ws 0 0) (getD ws 1 0) s ≡ job = cc in subst (JobFacts ws) u (all-held ws s e (ltb-false (s .sources) 1 h)))
+      (λ h a. let u : jobFacts (getD ws 0 0) (getD ws 1 0) s ≡ job = cc in subst (JobFacts ws) u (all-held ws s e (ltb-false (s .sources) 1 h)))
   once-read (Stopped r) e = apart r job
 
   pub well-formed : WellFormedJob ws job → JobFacts ws job
@@ -239,7 +239,7 @@ module _ (ws : List ℕ) (job : Job) where
   well-formed =
       let Q : JobRead → Type 0 = λ j. j ≡ Accepted job → JobFacts ws job in
       either Q (ltb (length ws) 1) (λ _. apart _ job)
-      (λ _. either Q (ltb mostJobWords (length ws)) (λ _. apart _ job) (λ _. once-read (reading AsJob nothing 0 ws) refl))
+      (λ _. either Q (ltb mostJobWords (length ws)) (λ _. apart _ job) (λ _. once-read (reading AsJob beginning 0 ws) refl))
 
   -- the parts of an accepted job's words
   module _ (e : WellFormedJob ws job) where

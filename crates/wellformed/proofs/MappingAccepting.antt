@@ -15,7 +15,7 @@ use Rattle.recipe.specs.Fields.{sourceOf}
 use Rattle.words.specs.Kinds.{HEADER, BINDING, GLUE, isRecipe}
 use Rattle.reader.specs.Limits.{mostBindings}
 use Rattle.reader.specs.Sequence.{mappingSequence, inSequence}
-use Rattle.reader.specs.Reading.{rises, wordFault, nothing, after, functionIn, reading}
+use Rattle.reader.specs.Reading.{rises, wordFault, beginning, after, functionIn, reading}
 use Rattle.reader.specs.Mapping.{WellFormedMapping}
 use Rattle.reader.specs.declared.sequence.File.{File}
 use Rattle.reader.specs.declared.sequence.File.the-variants.{AsMapping}
@@ -150,19 +150,19 @@ module _ (ws : List ℕ) (mapping : Mapping) (q : MappingFacts ws mapping) where
       let c = at-bindings d (i + 1) (j + 1) (after s w) (omega arith) (ready-more i j s (omega arith) r) in
       record { end = c .end; ends = g ∙ c .ends; closed = c .closed; bound = c .bound }
 
-  after-header : Closes ws nothing 0 (mapping .bindings)
+  after-header : Closes ws beginning 0 (mapping .bindings)
   after-header =
       let w = getD ws 0 0 in
       let k = q .header-kind in
-      let g = passes AsMapping ws nothing 0 (omega (arith, q .size)) (free-header nothing w refl k (omega arith) (omega arith)) in
-      let r : Ready ws (after nothing w) 1 0 =
+      let g = passes AsMapping ws beginning 0 (omega (arith, q .size)) (free-header beginning w refl k (omega arith) (omega arith)) in
+      let r : Ready ws (after beginning w) 1 0 =
       record {
         next = refl;
         bound = rw k refl;
         is-open = rw k refl;
-        order = λ v kv _. sym (first-of-kind (after nothing w) v (kindOf v) refl (λ e. omega arith) (λ e. omega arith));
+        order = λ v kv _. sym (first-of-kind (after beginning w) v (kindOf v) refl (λ e. omega arith) (λ e. omega arith));
       } in
-      let c = at-bindings (mapping .bindings) 1 0 (after nothing w) (omega arith) r in
+      let c = at-bindings (mapping .bindings) 1 0 (after beginning w) (omega arith) r in
       record { end = c .end; ends = g ∙ c .ends; closed = c .closed; bound = c .bound }
 
   pub accepts : WellFormedMapping ws mapping

@@ -15,8 +15,8 @@ use Rattle.words.specs.Kinds.{HEADER, BINDING, GLUE}
 use Rattle.words.specs.declared.Refusal.{Refusal}
 use Rattle.reader.specs.Limits.{mostBindings, mostMappingWords, bindingsStart, bindingPlace, gluePlace}
 use Rattle.reader.specs.Sequence.{mappingSequence, inSequence}
-use Rattle.reader.specs.Reading.{nothing, noted, after, functionIn, reading}
-use Rattle.reader.specs.Mapping.{factsOf, ended, mappingOf, WellFormedMapping}
+use Rattle.reader.specs.Reading.{beginning, noted, after, functionIn, reading}
+use Rattle.reader.specs.Mapping.{mappingFacts, mappingEnded, mappingOf, WellFormedMapping}
 use Rattle.reader.specs.declared.sequence.File.the-variants.{AsMapping}
 use Rattle.reader.specs.declared.sequence.State.{State}
 use Rattle.reader.specs.declared.step.Reading.{Reading}
@@ -83,7 +83,7 @@ opened s i q o =
     (λ h. record { next = omega arith; begun = omega arith; bound = λ _. h })
 
 module _ (ws : List ℕ) where
-  held-none : Held ws nothing 0
+  held-none : Held ws beginning 0
   held-none =
       record {
         counts = omega arith;
@@ -165,7 +165,7 @@ pub glue-fits : (ws : List ℕ) (mapping : Mapping) → MappingFacts ws mapping 
 glue-fits ws mapping h = omega (arith, h .glue, field-lt (getD ws (1 + mapping .bindings) 0) 0 28)
 
 from-held : (ws : List ℕ) (s : State) → s .stage ≡ GLUE → Held ws s (length ws)
-    → MappingFacts ws (factsOf (getD ws 0 0) (getD ws (length ws - 1) 0) s)
+    → MappingFacts ws (mappingFacts (getD ws 0 0) (getD ws (length ws - 1) 0) s)
 from-held ws s h q =
     let header = q .header (omega arith) in
     let width = width-whole (getD ws 0 0) (header .1) in
@@ -188,18 +188,18 @@ apart : {Q : Type 0} (r : Refusal) (mapping : Mapping) → Refused r ≡ Accepte
 apart r mapping e = let z : _≡_ {A = ℕ} 0 1 = cc in absurd (omega arith)
 
 -- what the words hold once all have passed
-all-held : (ws : List ℕ) (s : State) → reading AsMapping nothing 0 ws ≡ Passed s → s .stage ≡ GLUE
-    → MappingFacts ws (factsOf (getD ws 0 0) (getD ws (length ws - 1) 0) s)
+all-held : (ws : List ℕ) (s : State) → reading AsMapping beginning 0 ws ≡ Passed s → s .stage ≡ GLUE
+    → MappingFacts ws (mappingFacts (getD ws 0 0) (getD ws (length ws - 1) 0) s)
 all-held ws s e h =
     from-held ws s h
-    (passed AsMapping ws (Held ws) (λ t i _. held-more ws t i) (length ws) 0 nothing s (omega arith) (held-none ws) e)
+    (passed AsMapping ws (Held ws) (λ t i _. held-more ws t i) (length ws) 0 beginning s (omega arith) (held-none ws) e)
 
 module _ (ws : List ℕ) (mapping : Mapping) where
-  once-read : (r : Reading) → reading AsMapping nothing 0 ws ≡ r → ended ws r ≡ Accepted mapping → MappingFacts ws mapping
+  once-read : (r : Reading) → reading AsMapping beginning 0 ws ≡ r → mappingEnded ws r ≡ Accepted mapping → MappingFacts ws mapping
   once-read (Passed s) e =
       either (λ m. m ≡ Accepted mapping → MappingFacts ws mapping) (not (eqb (s .stage) GLUE))
       (λ _. apart _ mapping)
-      (λ h a. let u : factsOf (getD ws 0 0) (getD ws (length ws - 1) 0) s ≡ mapping = cc in
+      (λ h a. let u : mappingFacts (getD ws 0 0) (getD ws (length ws - 1) 0) s ≡ mapping = cc in
       subst (MappingFacts ws) u (all-held ws s e (eqb-true (s .stage) GLUE (not-false (eqb (s .stage) GLUE) h))))
   once-read (Stopped r) e = apart r mapping
 
@@ -208,4 +208,4 @@ module _ (ws : List ℕ) (mapping : Mapping) where
   well-formed =
       let Q : MappingRead → Type 0 = λ m. m ≡ Accepted mapping → MappingFacts ws mapping in
       either Q (ltb (length ws) 1) (λ _. apart _ mapping)
-      (λ _. either Q (ltb mostMappingWords (length ws)) (λ _. apart _ mapping) (λ _. once-read (reading AsMapping nothing 0 ws) refl))
+      (λ _. either Q (ltb mostMappingWords (length ws)) (λ _. apart _ mapping) (λ _. once-read (reading AsMapping beginning 0 ws) refl))

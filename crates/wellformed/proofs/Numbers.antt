@@ -15,8 +15,8 @@ use Rattle.words.proofs.Choices.{either}
 use Rattle.recipe.specs.Layout.{readsUndriven, showsOther}
 use Rattle.reader.specs.Limits.{mostJobWords}
 use Rattle.reader.specs.Sequence.{inSequence}
-use Rattle.reader.specs.Reading.{fits, rises, wordFault, nothing, after, reading}
-use Rattle.reader.specs.Job.{ended, jobOf}
+use Rattle.reader.specs.Reading.{fits, rises, wordFault, beginning, after, reading}
+use Rattle.reader.specs.Job.{jobEnded, jobOf}
 use Rattle.reader.specs.declared.sequence.File.{File}
 use Rattle.reader.specs.declared.sequence.File.the-variants.{AsJob}
 use Rattle.reader.specs.declared.sequence.State.{State}
@@ -60,7 +60,7 @@ module _ (r : Refusal) where
       let P : JobRead → Type 0 = λ x. x ≡ Refused r → Listed in
       either P (ltb (length ws) 1) (λ _. numbered 1 0 (omega arith, omega arith))
       (λ _. either P (ltb mostJobWords (length ws)) (λ _. numbered 1 0 (omega arith, omega arith))
-      (λ _. at-end (reading AsJob nothing 0 ws) (stopped-number AsJob ws nothing 0)))
+      (λ _. at-end (reading AsJob beginning 0 ws) (stopped-number AsJob ws beginning 0)))
     where
       numbered : (n i : ℕ) → (1 ≤ n) × (n ≤ 6) → Refused (refusal n i) ≡ Refused r → Listed
       numbered n i h u =
@@ -68,7 +68,7 @@ module _ (r : Refusal) where
           let z = ap (λ (x : Refusal). x .number) q in
           (omega (arith, h), omega (arith, h))
 
-      at-end : (x : Reading) → (x ≡ Stopped r → Listed) → ended ws x ≡ Refused r → Listed
+      at-end : (x : Reading) → (x ≡ Stopped r → Listed) → jobEnded ws x ≡ Refused r → Listed
       at-end (Stopped x) h = λ u. let q : x ≡ r = cc in h (ap Stopped q)
       at-end (Passed s) h =
           either (λ (x : JobRead). x ≡ Refused r → Listed) (ltb (s .sources) 1) (numbered-2 (length ws))

@@ -32,7 +32,7 @@ unfoldable pub writtenOf : ℕ → List ℕ → Written
 writtenOf sources lent =
     if ltb (length lent) (wordsNeeded sources) then Refused (refusal 23 (wordsNeeded sources)) else Words (wordsNeeded sources)
 
--- "Lent words .. stay unchanged; on success words past the written ones do too": `sets lent 0 ws` is lent with ws from place 0 on
+-- "Lent words .. stay unchanged; on success words past the written ones do too": `sets lent 0 ws` is lent with ws from its first word on
 unfoldable pub lentAfter : List ℕ → List ℕ → List ℕ
 lentAfter ws lent = if ltb (length lent) (length ws) then lent else sets lent 0 ws
 

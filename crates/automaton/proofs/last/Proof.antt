@@ -19,8 +19,8 @@ shown-bit-requires-2 c κs = search needs
 same-bit-requires-2 : tie.Need-same-bit-requires-2
 same-bit-requires-2 c κs = search needs
 
-comparison-requires : tie.Need-comparison-requires
-comparison-requires c κs = search needs
+shown-comparison-requires : tie.Need-shown-comparison-requires
+shown-comparison-requires c κs = search needs
 
 same-bit-requires-3 : tie.Need-same-bit-requires-3
 same-bit-requires-3 c κs = search needs
@@ -37,6 +37,6 @@ last-spec =
     same-bit-requires
     shown-bit-requires-2
     same-bit-requires-2
-    comparison-requires
+    shown-comparison-requires
     same-bit-requires-3
     returns)

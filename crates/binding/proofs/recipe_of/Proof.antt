@@ -10,8 +10,8 @@ from-scratch-requires c κs = search needs
 vector-of-requires : tie.Need-vector-of-requires
 vector-of-requires c κs = search needs
 
-scratch-requires : tie.Need-scratch-requires
-scratch-requires c κs = search needs
+from-vector-requires : tie.Need-from-vector-requires
+from-vector-requires c κs = search needs
 
 returns : tie.Need-returns
 returns c = search is-scratch
@@ -31,7 +31,7 @@ recipe-of-spec =
     (tie.spec
     from-scratch-requires
     vector-of-requires
-    scratch-requires
+    from-vector-requires
     returns
     unpack-requires
     from-target-requires

@@ -13,8 +13,8 @@ Inv-loop bytes words₀ hex₀ count₀ i₀ words hex count i = (count ≤ leng
 abbrev μ-loop : tie.MeasureT-loop
 μ-loop bytes words₀ hex₀ count₀ i₀ words hex count i = length bytes - i
 
-none-requires : tie.Need-none-requires Inv-loop μ-loop
-none-requires c κs = search needs
+no-digits-requires : tie.Need-no-digits-requires Inv-loop μ-loop
+no-digits-requires c κs = search needs
 
 loop-holds : tie.Need-loop-holds Inv-loop μ-loop
 loop-holds c = search needs
@@ -58,7 +58,7 @@ words-in-spec =
     (tie.spec
     Inv-loop
     μ-loop
-    none-requires
+    no-digits-requires
     loop-holds
     same-length
     returns

@@ -12,8 +12,8 @@ Inv-loop now₀ bytes₀ now bytes = 0 ≤ bytes
 abbrev μ-loop : tie.MeasureT-loop
 μ-loop now₀ bytes₀ now bytes = 2 ^ 61 - bytes
 
-none-requires : tie.Need-none-requires Inv-loop μ-loop
-none-requires c κs = search needs
+no-digits-requires : tie.Need-no-digits-requires Inv-loop μ-loop
+no-digits-requires c κs = search needs
 
 loop-holds : tie.Need-loop-holds Inv-loop μ-loop
 loop-holds c = search needs
@@ -39,7 +39,7 @@ main-spec =
     (tie.spec
     Inv-loop
     μ-loop
-    none-requires
+    no-digits-requires
     loop-holds
     take-some-requires
     loop-less

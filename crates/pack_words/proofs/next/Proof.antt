@@ -19,8 +19,8 @@ enum-known-step-2 c = search needs
 write-word-requires : tie.Need-write-word-requires
 write-word-requires c κs = search needs
 
-none-requires : tie.Need-none-requires
-none-requires c κs = search needs
+no-digits-requires : tie.Need-no-digits-requires
+no-digits-requires c κs = search needs
 
 add-t11 : tie.Need-add-t11
 add-t11 c = search needs
@@ -49,7 +49,7 @@ next-spec =
     add-t8
     enum-known-step-2
     write-word-requires
-    none-requires
+    no-digits-requires
     add-t11
     enum-told
     complain-requires

@@ -10,8 +10,8 @@ read-job-requires c κs = search needs
 enum-known-read : tie.Need-enum-known-read
 enum-known-read c = search needs
 
-zeros-requires : tie.Need-zeros-requires
-zeros-requires c κs = search needs
+bench-of-zeros-requires : tie.Need-bench-of-zeros-requires
+bench-of-zeros-requires c κs = search needs
 
 enum-known-read-2 : tie.Need-enum-known-read-2
 enum-known-read-2 c = search needs
@@ -31,7 +31,7 @@ open-spec =
     (tie.spec
     read-job-requires
     enum-known-read
-    zeros-requires
+    bench-of-zeros-requires
     enum-known-read-2
     opened-requires
     returns

@@ -19,8 +19,8 @@ ones-requires c κs = search needs
 top-requires : tie.Need-top-requires
 top-requires c κs = search needs
 
-comparison-requires : tie.Need-comparison-requires
-comparison-requires c κs = search needs
+shown-comparison-requires : tie.Need-shown-comparison-requires
+shown-comparison-requires c κs = search needs
 
 returns : tie.Need-returns
 returns c = search output-parts
@@ -34,5 +34,5 @@ outputs-show-spec =
     shown-bit-requires-2
     ones-requires
     top-requires
-    comparison-requires
+    shown-comparison-requires
     returns)

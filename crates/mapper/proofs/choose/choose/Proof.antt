@@ -11,12 +11,12 @@ use Rattle.table.specs.Parts.{termsWith}
 use Rattle.usage.specs.Sets.{usage}
 use Rattle.mapper.proofs.Choosing.{one-rule-more, source-bound, source-used, source-unmappable, all-sources, no-more-rules}
 use Rattle.mapper.proofs.choose.choose.Statement.{statement}
-use Rattle.mapper.specs.Choose.{choose, bestOf, none}
+use Rattle.mapper.specs.Choose.{choose, bestOf, noRule}
 use Rattle.mapper.specs.Chosen.{besides}
 use Rattle.mapper.proofs.choose.choose.Tie as tie
 
 abbrev Inv-loop : tie.InvT-loop
-Inv-loop job sources targets rules bound used mapped₀ unmappable₀ i function best₀ j₀ mapped unmappable best j = (j ≤ length rules) × (mapped ≡ mapped₀) × (bestOf (besides (job .width) (job .prices) used) (termsWith job sources targets) function best (drop j rules) ≡ bestOf (besides (job .width) (job .prices) used) (termsWith job sources targets) function none rules)
+Inv-loop job sources targets rules bound used mapped₀ unmappable₀ i function best₀ j₀ mapped unmappable best j = (j ≤ length rules) × (mapped ≡ mapped₀) × (bestOf (besides (job .width) (job .prices) used) (termsWith job sources targets) function best (drop j rules) ≡ bestOf (besides (job .width) (job .prices) used) (termsWith job sources targets) function noRule rules)
 
 abbrev μ-loop : tie.MeasureT-loop
 μ-loop job sources targets rules bound used mapped₀ unmappable₀ i function best₀ j₀ mapped unmappable best j = length rules - j

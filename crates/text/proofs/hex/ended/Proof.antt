@@ -5,8 +5,8 @@ use borrow.Author.Needs.{needs}
 use Rattle.text.proofs.hex.ended.Statement.{statement}
 use Rattle.text.proofs.hex.ended.Tie as tie
 
-none-requires : tie.Need-none-requires
-none-requires c κs = search needs
+no-digits-requires : tie.Need-no-digits-requires
+no-digits-requires c κs = search needs
 
 returns : tie.Need-returns
 unfolding ended
@@ -21,4 +21,4 @@ unfolding ended
 returns-3 c = search decide
 
 pub ended-spec : {M : Type 1} → statement M
-ended-spec = tie.close (tie.spec none-requires returns returns-2 returns-3)
+ended-spec = tie.close (tie.spec no-digits-requires returns returns-2 returns-3)

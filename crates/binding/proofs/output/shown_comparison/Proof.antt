@@ -1,8 +1,8 @@
--- `binding::output::comparison` meets its contract.
+-- `binding::output::shown_comparison` meets its contract.
 use borrow.Author.Needs.{needs}
 use Rattle.binding.proofs.Codes.{code-past, code-table}
-use Rattle.binding.proofs.output.comparison.Statement.{statement}
-use Rattle.binding.proofs.output.comparison.Tie as tie
+use Rattle.binding.proofs.output.shown_comparison.Statement.{statement}
+use Rattle.binding.proofs.output.shown_comparison.Tie as tie
 
 returns : tie.Need-returns
 returns c = search code-past
@@ -16,5 +16,5 @@ array-read-result c = search needs
 returns-2 : tie.Need-returns-2
 returns-2 c = search code-table
 
-pub comparison-spec : {M : Type 1} → statement M
-comparison-spec = tie.close (tie.spec returns exor-requires array-read-result returns-2)
+pub shown-comparison-spec : {M : Type 1} → statement M
+shown-comparison-spec = tie.close (tie.spec returns exor-requires array-read-result returns-2)
