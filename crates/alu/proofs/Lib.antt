@@ -1,8 +1,2 @@
-pub mod Words
-pub mod Wirings
-pub mod Values
-pub mod Sums
-pub mod Orders
-pub mod Minterms
 pub mod Shown
 pub mod Starred

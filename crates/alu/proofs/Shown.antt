@@ -13,17 +13,21 @@ use Rattle.words.specs.Choice.{if_then_else_}
 use Rattle.words.specs.Paper.{refusal}
 use Rattle.words.proofs.Choices.{either}
 use Rattle.words.proofs.Lists.{getD-within}
-use Rattle.alu.specs.Bits.{num, bit}
-use Rattle.alu.specs.Wiring.{wired, carried}
-use Rattle.alu.specs.Function.{functions, functionOf, sum, minterm, logicWord, compared, ports}
-use Rattle.alu.specs.Evaluate.{isFunction, isWidth, firstOutOfRange, inRange, evaluation}
-use Rattle.alu.specs.Asked.{Width, Operands}
-use Rattle.alu.specs.declared.Ports.{Ports}
+use Rattle.bits.specs.Bits.{num, bit}
+use Rattle.bits.specs.Wiring.{wired, carried}
+use Rattle.alu.specs.Function.{functions, functionOf, ports}
+use Rattle.bits.specs.Sum.{sum}
+use Rattle.bits.specs.Vector.{minterm, logicWord}
+use Rattle.bits.specs.Order.{compared}
+use Rattle.alu.specs.Range.{isFunction, isWidth}
+use Rattle.alu.specs.Evaluate.{firstOutOfRange, inRange, evaluation}
+use Rattle.bits.specs.Asked.{Width, Operands}
+use Rattle.bits.specs.declared.Ports.{Ports}
 use Rattle.alu.specs.declared.Kind.{Kind}
 use Rattle.alu.specs.declared.Kind.the-variants.{Arithmetic, Logic, Comparison}
 use Rattle.alu.specs.declared.Evaluation.{Evaluation}
 use Rattle.alu.specs.declared.Evaluation.the-variants.{Shown, Refused}
-use Rattle.alu.proofs.Words.{word-lt}
+use Rattle.bits.proofs.Words.{word-lt}
 
 -- ---- the table of functions
 

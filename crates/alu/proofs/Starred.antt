@@ -5,9 +5,13 @@ use mathlib.Core.List.{List, [], _∷_}
 use Prim.Native.Nat.{ℕ, _-_, _^_}
 use lib.Dec.{eqb}
 use Rattle.words.specs.Paper.{Paper}
-use Rattle.alu.specs.Bits.{bit, top, word}
-use Rattle.alu.specs.Function.{value, overflows, sum, below, ports}
-use Rattle.alu.specs.Evaluate.{isFunction, isWidth, firstOutOfRange, evaluation, paperOf}
+use Rattle.bits.specs.Bits.{bit, top, word}
+use Rattle.bits.specs.Bits.{value}
+use Rattle.bits.specs.Sum.{overflows, sum}
+use Rattle.bits.specs.Order.{below}
+use Rattle.alu.specs.Function.{ports}
+use Rattle.alu.specs.Range.{isFunction, isWidth}
+use Rattle.alu.specs.Evaluate.{firstOutOfRange, evaluation, paperOf}
 
 -- a row of the table: what the evaluator is given, and what the four ports then show
 infix 70 _width_left_right_carry_shows_ocout_ovf_o1_

@@ -6,21 +6,11 @@ use mathlib.Core.List.{[], _∷_}
 use lib.Dec.{leb, ltb, eqb}
 use Rattle.words.specs.Choice.{if_then_else_}
 use Rattle.words.specs.Paper.{Paper, refusal, accepted, told}
-use Rattle.alu.specs.Bits.{num}
+use Rattle.bits.specs.Bits.{num}
 use Rattle.alu.specs.Function.{functionOf, ports}
+use Rattle.alu.specs.Range.{isFunction, isWidth}
 use Rattle.alu.specs.declared.Evaluation.{Evaluation}
 use Rattle.alu.specs.declared.Evaluation.the-variants.{Shown, Refused}
-
--- the functions are numbered from 1 to 27
-abbrev pub lastFunction : ℕ
-lastFunction = 27
-
-unfoldable pub isFunction : ℕ → Bool
-isFunction f = if ltb f 1 then false else leb f lastFunction
-
--- "n from 1 to 64"
-unfoldable pub isWidth : ℕ → Bool
-isWidth n = if ltb n 1 then false else leb n 64
 
 -- every value is in range
 abbrev pub inRange : ℕ

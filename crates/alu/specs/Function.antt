@@ -1,15 +1,13 @@
 -- Document 01, "Functions (Tables 1 to 4)".
-use Prim.Native.Nat.{ℕ, _+_, _-_, _*_, _%_, _^_}
-use mathlib.Core.Bool.{Bool, true, false, _||_}
+use Prim.Native.Nat.{ℕ}
+use mathlib.Core.Bool.{Bool, true, false}
 use mathlib.Core.List.{List, [], _∷_}
 use lib.ListN.{getD}
-use lib.Dec.{leb}
-use lib.IntN.{ℤ, pos, negℤ, subℕ, _+ℤ_}
-use lib.Signed.{ltZ, leZ}
-use Rattle.words.specs.Choice.{if_then_else_}
-use Rattle.alu.specs.Bits.{num, bit, top, word}
-use Rattle.alu.specs.Wiring.{wired, carried, zeros, ones, I0, NOT-I0, I1, NOT-I1, carry-zero, carry-one, ICIN}
-use Rattle.alu.specs.declared.Ports.{Ports}
+use Rattle.bits.specs.Wiring.{wired, carried, zeros, ones, I0, NOT-I0, I1, NOT-I1, carry-zero, carry-one, ICIN}
+use Rattle.bits.specs.Sum.{sum}
+use Rattle.bits.specs.Vector.{logicWord}
+use Rattle.bits.specs.Order.{compared}
+use Rattle.bits.specs.declared.Ports.{Ports}
 use Rattle.alu.specs.declared.PortSet.{PortSet}
 use Rattle.alu.specs.declared.Kind.{Kind}
 use Rattle.alu.specs.declared.Kind.the-variants.{Arithmetic, Logic, Comparison}
@@ -56,45 +54,6 @@ functions =
 -- The function with a number from 1 to 27. Any other number is refused before it comes here.
 abbrev pub functionOf : ℕ → Kind
 functionOf f = getD functions f (Logic 0)
-
--- The two's complement value of a word of n bits.
-unfoldable pub value : ℕ → ℕ → ℤ
-value n a = subℕ a (num (top n a) * 2 ^ n)
-
--- "the exact sum of the two's complement values, with ICIN where it is added"
-abbrev pub exactSum : ℕ → ℕ → ℕ → Bool → ℤ
-exactSum n a b c = value n a +ℤ value n b +ℤ pos (num c)
-
--- "OVF is 1 if [it] is outside −2^(n−1) to 2^(n−1)−1"
-unfoldable pub overflows : ℕ → ℕ → ℕ → Bool → Bool
-overflows n a b c =
-    ltZ (exactSum n a b c) (negℤ (pos (2 ^ (n - 1)))) || leZ (pos (2 ^ (n - 1))) (exactSum n a b c)
-
--- "O0 is the sum modulo 2^n ... OCOUT is 1 if the unsigned sum reaches 2^n."
-unfoldable pub sum : ℕ → ℕ → ℕ → Bool → Ports
-sum n a b c =
-    record {
-      o0 = (a + b + num c) % 2 ^ n;
-      ocout = leb (2 ^ n) (a + b + num c);
-      ovf = overflows n a b c;
-      o1 = false;
-    }
-
--- "bit 3 for NOT I0 AND NOT I1, bit 2 for NOT I0 AND I1, bit 1 for I0 AND NOT I1, bit 0 for I0 AND I1"
-abbrev pub minterm : ℕ → Bool → Bool → Bool
-minterm vector x y = bit vector (if x then (if y then 0 else 1) else (if y then 2 else 3))
-
--- the vector at each place
-abbrev pub logicWord : ℕ → ℕ → ℕ → ℕ → ℕ
-logicWord n vector left right = word n (λ i. minterm vector (bit left i) (bit right i))
-
--- "Comparisons are of two's complement values."
-unfoldable pub below : ℕ → ℕ → ℕ → Bool
-below n a b = ltZ (value n a) (value n b)
-
-abbrev pub compared : ℕ → Bool → Bool → Bool → ℕ → ℕ → Bool
-compared n less equal greater left right =
-    if below n left right then less else if below n right left then greater else equal
 
 -- "Arithmetic drives O0, OCOUT, OVF; logic drives O0; comparison drives O1."
 abbrev pub drives : Kind → PortSet

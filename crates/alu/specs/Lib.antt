@@ -1,6 +1,3 @@
-pub mod Bits
-pub mod Wiring
 pub mod Function
+pub mod Range
 pub mod Evaluate
-pub mod Adder
-pub mod Asked

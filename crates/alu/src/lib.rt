@@ -1,22 +1,24 @@
 // The ALU functions of document 01, "Functions (Tables 1 to 4)": their ports at a width from 1 to 64, and the evaluator.
-mod adder;
-mod logic;
-mod order;
-mod wiring;
-
-use adder::sum;
-use logic::logic_word;
-use order::compared;
-pub use wiring::carried;
-pub use wiring::complement;
-pub use wiring::ones;
-pub use wiring::top;
-pub use wiring::wired;
+use bits::CARRY_ONE;
+use bits::CARRY_ZERO;
+use bits::I0;
+use bits::I1;
+use bits::ICIN;
+use bits::NOT_I0;
+use bits::NOT_I1;
+use bits::ONES;
+use bits::Ports;
+use bits::ZEROS;
+use bits::compared;
+use bits::logic_word;
+use bits::ones;
+use bits::sum;
 use words::Refusal;
 ghost use mathlib.Core.Path.{_≡_};
 ghost use Rattle.alu.specs.Function as F;
+ghost use Rattle.alu.specs.Range as R;
 ghost use Rattle.alu.specs.Evaluate as E;
-ghost use Rattle.alu.specs.Asked as Q;
+ghost use Rattle.bits.specs.Asked as Q;
 
 // The number of functions, and the greatest width.
 pub const FUNCTIONS: u32 = 27;
@@ -25,33 +27,6 @@ pub const WIDEST: u32 = 64;
 
 // The number of no function.
 pub const NO_FUNCTION: u32 = 0;
-
-// The codes of wirings and of the carry, as the functions choose what they add. Codes 2j and 2j + 1 are complements.
-pub const ZEROS: u32 = 0;
-
-pub const ONES: u32 = 1;
-
-pub const I0: u32 = 2;
-
-pub const NOT_I0: u32 = 3;
-
-pub const I1: u32 = 4;
-
-pub const NOT_I1: u32 = 5;
-
-pub const CARRY_ZERO: u32 = 0;
-
-pub const CARRY_ONE: u32 = 1;
-
-pub const ICIN: u32 = 2;
-
-// What a function shows: O0, OCOUT, OVF and O1. An undriven port shows 0.
-pub struct Ports {
-    pub o0: u64,
-    pub ocout: bool,
-    pub ovf: bool,
-    pub o1: bool,
-}
 
 // Some of the four ports.
 pub struct PortSet {
@@ -87,7 +62,7 @@ pub enum Evaluation {
 const IN_RANGE: usize = 5;
 
 pub fn is_function(number: u32) -> bool
-    ensures { λ r. ⌜ r ≡ E.isFunction number ⌝ }
+    ensures { λ r. ⌜ r ≡ R.isFunction number ⌝ }
 {
     if number < 1 {
         return false;
@@ -96,7 +71,7 @@ pub fn is_function(number: u32) -> bool
 }
 
 pub fn is_width(n: u32) -> bool
-    ensures { λ r. ⌜ r ≡ E.isWidth n ⌝ }
+    ensures { λ r. ⌜ r ≡ R.isWidth n ⌝ }
 {
     if n < 1 {
         return false;
@@ -234,9 +209,9 @@ pub fn ports_of(kind: Kind, n: u32, left: u64, right: u64, carry: bool) -> Ports
             carry: k,
         } => sum(
             n,
-            wired(n, p, left, right),
-            wired(n, q, left, right),
-            carried(k, carry),
+            bits::wired(n, p, left, right),
+            bits::wired(n, q, left, right),
+            bits::carried(k, carry),
         ),
         Kind::Logic(vector) => Ports {
             o0: logic_word(n, vector, left, right),

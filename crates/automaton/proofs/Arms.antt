@@ -3,9 +3,9 @@ use mathlib.Core.Path.{_≡_, ap, ap₂, _∙_}
 use mathlib.Core.Bool.{Bool, false}
 use Prim.Native.Nat.{ℕ}
 use Rattle.words.specs.Choice.{if_then_else_}
-use Rattle.alu.specs.Bits.{exor}
-use Rattle.alu.specs.Wiring.{carried}
-use Rattle.alu.specs.Function.{minterm}
+use Rattle.bits.specs.Bits.{exor}
+use Rattle.bits.specs.Wiring.{carried}
+use Rattle.bits.specs.Vector.{minterm}
 use Rattle.alu.specs.declared.Kind.{Kind}
 use Rattle.alu.specs.declared.Kind.the-variants.{Arithmetic, Logic, Comparison}
 use Rattle.binding.specs.declared.Side.{Side}

@@ -6,8 +6,8 @@ use Prim.Native.Nat.{ℕ, _≤_, _/_, _%_}
 use native.Mathlib.Nat.{div-one}
 use lib.Dec.{eqb}
 use lib.ListN.{List·getD-eq-default}
-use Rattle.alu.specs.Bits.{bit}
-use Rattle.alu.specs.Function.{minterm}
+use Rattle.bits.specs.Bits.{bit}
+use Rattle.bits.specs.Vector.{minterm}
 use Rattle.automaton.specs.Place.{wire}
 
 pub wire-past : (code : ℕ) (x y : Bool) → 6 ≤ code → false ≡ wire code x y

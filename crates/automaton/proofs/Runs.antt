@@ -9,10 +9,10 @@ use lib.Dec.{eqb}
 use lib.Pow.{pow-pos}
 use borrow.Author.Tests.{eq-eqb, ne-eqb, eqb-true, eqb-false, not-true, not-false}
 use Rattle.words.proofs.Choices.{and-split, and-join, beq-true, beq-refl}
-use Rattle.alu.specs.Bits.{num, bit, word}
-use Rattle.alu.specs.Wiring.{carried}
-use Rattle.alu.specs.declared.Ports.{Ports}
-use Rattle.alu.proofs.Words.{pow2, word-lt, word-ext, word-bits, same, same-word, word-same, top-word, word-not, word-zeros}
+use Rattle.bits.specs.Bits.{num, bit, word}
+use Rattle.bits.specs.Wiring.{carried}
+use Rattle.bits.specs.declared.Ports.{Ports}
+use Rattle.bits.proofs.Words.{pow2, word-lt, word-ext, word-bits, same, same-word, word-same, top-word, word-not, word-zeros}
 use Rattle.binding.specs.Binding.{outputsShow, sideShows, shows, shownBit, shownWord, shownComparison}
 use Rattle.binding.specs.Right.{Agrees}
 use Rattle.binding.specs.declared.Side.{Side}

@@ -8,16 +8,19 @@ use lib.Dec.{leb, ltb}
 use lib.Pow.{low}
 use borrow.Author.Tests.{lt-ltb, le-ltb}
 use Rattle.words.specs.Choice.{if_then_else_}
-use Rattle.alu.specs.Bits.{num, exor, bit, top, word}
-use Rattle.alu.specs.Wiring.{wired, carried}
-use Rattle.alu.specs.Function.{overflows, below, minterm, sum, compared, ports}
-use Rattle.alu.specs.declared.Ports.{Ports}
+use Rattle.bits.specs.Bits.{num, exor, bit, top, word}
+use Rattle.bits.specs.Wiring.{wired, carried}
+use Rattle.bits.specs.Sum.{overflows, sum}
+use Rattle.bits.specs.Order.{below, compared}
+use Rattle.bits.specs.Vector.{minterm}
+use Rattle.alu.specs.Function.{ports}
+use Rattle.bits.specs.declared.Ports.{Ports}
 use Rattle.alu.specs.declared.Kind.{Kind}
 use Rattle.alu.specs.declared.Kind.the-variants.{Arithmetic, Logic, Comparison}
-use Rattle.alu.proofs.Values.{below-nat, overflows-nat}
-use Rattle.alu.proofs.Words.{pow2, word-lt, word-ext, bit-word, suc-sub-one, top-word, word-zeros, word-not, word-ones}
-use Rattle.alu.proofs.Sums.{or-first, or-second, or-neither, reaches}
-use Rattle.alu.proofs.Orders.{ltb-iff}
+use Rattle.bits.proofs.Values.{below-nat, overflows-nat}
+use Rattle.bits.proofs.Words.{pow2, word-lt, word-ext, bit-word, suc-sub-one, top-word, word-zeros, word-not, word-ones}
+use Rattle.bits.proofs.Sums.{or-first, or-second, or-neither, reaches}
+use Rattle.bits.proofs.Orders.{ltb-iff}
 use Rattle.automaton.specs.Place.{wire, majority, parity, lessAt, start, step, outBit, topCarry, topOverflow, topOrder}
 use Rattle.automaton.specs.declared.Ripple.{Ripple}
 

@@ -4,7 +4,7 @@ use alu::Kind;
 ghost use mathlib.Core.Path.{_≡_};
 ghost use mathlib.Core.Bool.{Bool·beq};
 ghost use Rattle.words.specs.Choice.{if_then_else_};
-ghost use Rattle.alu.specs.Function as F;
+ghost use Rattle.bits.specs.Vector as F;
 ghost use Rattle.automaton.specs.Place as P;
 
 // A wiring code on one bit of each operand.
@@ -83,7 +83,7 @@ pub fn start(kind: Kind, carry: bool) -> Ripple
             right: _,
             carry: k,
         } => Ripple {
-            lo: alu::carried(k, carry),
+            lo: bits::carried(k, carry),
             hi: false,
         },
         Kind::Logic(_) => still(),

@@ -9,7 +9,7 @@ pub fn side_start(s: Side, carry: bool) -> Ripple
     ensures { λ r. ⌜ r ≡ P.sideStart s carry ⌝ }
 {
     let kind = s.kind;
-    place::start(kind, alu::carried(s.carry, carry))
+    place::start(kind, bits::carried(s.carry, carry))
 }
 
 pub fn side_step(s: Side, a: Ripple, x: bool, y: bool) -> Ripple

@@ -15,17 +15,16 @@ use Rattle.verdict.specs.Verdicts.{Says}
 use Rattle.verdict.specs.declared.Verdict.{Verdict}
 use Rattle.verdict.specs.declared.Verdict.the-variants as verdict
 use Rattle.verdict.proofs.Verdicting.{right-says, wrong-says}
-use Rattle.alu.specs.Asked.{Width}
-use Rattle.reader.specs.Limits.{mostSources, mostTargets}
+use Rattle.sequence.specs.Limits.{mostSources}
 use Rattle.table.proofs.Entries.{in-job-parts}
-use Rattle.soundness.specs.Sound.{sourcesOn, targetsOn, ruleFault}
-use Rattle.soundness.proofs.Soundness.{sound-width, sound-sources, sound-targets}
-use Rattle.bench.specs.Calls.{soundBench, gives, inTables, entryOf, entryFor, boundAt, isTaken, bindFault, bindPlace, claimOn, bindOf, Binds}
+use Rattle.soundness.specs.Sound.{sourcesOn, targetsOn, tablesSound, ruleFault}
+use Rattle.soundness.proofs.Soundness.{sound-sources, sound-tables}
+use Rattle.bench.specs.Calls.{soundBench, gives, inTables, entryFor, boundAt, isTaken, bindFault, bindPlace, claimOn, bindOf, Binds}
 use Rattle.bench.specs.Shape.{Shaped}
 use Rattle.bench.specs.declared.Bench.{Bench}
 use Rattle.bench.specs.declared.Answer.the-variants.{Done, Refused, Wrong}
 use Rattle.bench.proofs.Shapes.{sources-few}
-use Rattle.bench.proofs.Searching.{lists-entry, entry-most}
+use Rattle.entries.proofs.Searching.{lists-entry}
 
 -- ---- the entry
 
@@ -33,13 +32,6 @@ use Rattle.bench.proofs.Searching.{lists-entry, entry-most}
 pub tables-entry : (b : Bench) (w : ℕ) → inTables b w ≡ true → entryFor b w < length (sourcesOn (b .tables))
 tables-entry b w t =
     lists-entry (sourcesOn (b .tables)) (sourceOf w) (in-job-parts (sourcesOn (b .tables)) (targetsOn (b .tables)) w t .0)
-
-module _ (b : Bench) (w f i : ℕ) (ef : f ≡ sourceOf w) (ei : i ≡ entryOf (sourcesOn (b .tables)) f) where
-  pub entry-of-source : i ≡ entryFor b w
-  entry-of-source = ei ∙ ap (entryOf (sourcesOn (b .tables))) ef
-
-  pub entry-few : Shaped b → soundBench b ≡ true → i ≤ mostSources
-  entry-few h s = omega (arith, ei, entry-most (sourcesOn (b .tables)) f, sources-few b h (sound-sources (b .tables) (b .bound) s))
 
 module _ (b : Bench) (w : ℕ) (s : soundBench b ≡ true) (t : inTables b w ≡ true) (i : ℕ) (ei : (i ≡ entryFor b w) × (i ≤ mostSources)) where
   pub entry-there : Shaped b → i < mostSources
@@ -122,8 +114,11 @@ module _ (b : Bench) (w x : ℕ) (ex : x ≡ bindFault b w) where
       rw (ne-eqb (bindFault b w) 0 (λ e. h (ex ∙ e))) (λ k. gives b (Refused (refusal (ex k) ((ei ∙ ap (λ (y : ℕ). bindPlace y w) ex) k))))
 
   module _ (hx : x ≡ 0) where
-    pub checked-sound : soundBench b ≡ true
+    checked-sound : soundBench b ≡ true
     checked-sound = checked b w (sym ex ∙ hx) .sound
+
+    pub checked-tables : tablesSound (b .tables) ≡ true
+    checked-tables = sound-tables (b .tables) (b .bound) checked-sound
 
     pub checked-entry : (i : ℕ) → (i ≡ entryFor b w) × (i ≤ mostSources) → Shaped b → i < mostSources
     checked-entry i ei h = entry-there b w checked-sound (checked b w (sym ex ∙ hx) .there) i ei h
@@ -146,12 +141,5 @@ module _ (b : Bench) (w x : ℕ) (ex : x ≡ bindFault b w) where
 pub is-sound : (b : Bench) (p : Bool) → p ≡ soundBench b → not p ≡ false → soundBench b ≡ true
 is-sound b p ep hp = sym ep ∙ not-false p hp
 
-module _ (b : Bench) (s : soundBench b ≡ true) where
-  pub width-sound : Width (b .tables .width)
-  width-sound = sound-width (b .tables) (b .bound) s
-
-  pub few-sources : b .tables .nsources ≤ mostSources
-  few-sources = sound-sources (b .tables) (b .bound) s
-
-  pub few-targets : b .tables .ntargets ≤ mostTargets
-  few-targets = sound-targets (b .tables) (b .bound) s
+pub tables-sound : (b : Bench) (p : Bool) → p ≡ soundBench b → not p ≡ false → tablesSound (b .tables) ≡ true
+tables-sound b p ep hp = sound-tables (b .tables) (b .bound) (is-sound b p ep hp)

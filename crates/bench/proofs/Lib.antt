@@ -1,6 +1,5 @@
 pub mod Shapes
 pub mod Copying
-pub mod Searching
 pub mod Opened
 pub mod Binds
 pub mod Pricing

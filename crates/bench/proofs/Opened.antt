@@ -5,7 +5,8 @@ use Prim.Native.Nat.{ℕ, _≤_}
 use native.Mathlib.Omega.{arith}
 use lib.ListN.{length, drop, length-take}
 use Rattle.words.specs.declared.Refusal.{Refusal}
-use Rattle.reader.specs.Limits.{mostSources, mostTargets, sourcesStart, targetsStart}
+use Rattle.sequence.specs.Limits.{mostSources, mostTargets}
+use Rattle.reader.specs.Starts.{sourcesStart, targetsStart}
 use Rattle.reader.specs.Job.{jobOf, WellFormedJob}
 use Rattle.reader.specs.declared.Job.{Job}
 use Rattle.reader.specs.declared.JobRead.{JobRead}

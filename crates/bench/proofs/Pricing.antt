@@ -2,30 +2,23 @@
 use mathlib.Core.Path.{_≡_, refl, sym, ap, _∙_}
 use mathlib.Core.Bool.{Bool, true, false, not}
 use mathlib.Core.List.{[]}
-use Prim.Native.Nat.{ℕ, _^_, _≤_, _<_}
+use Prim.Native.Nat.{ℕ, _^_, _<_}
 use borrow.Author.Tests.{not-true, not-false}
 use Rattle.words.specs.Paper.{refusal}
-use Rattle.usage.specs.Sets.{usage}
-use Rattle.glue.specs.Parts.{setCount}
-use Rattle.glue.proofs.Joining.{price-is-glue}
+use Rattle.glue.specs.Glue.{glue}
 use Rattle.glue.proofs.Bounds.{glue-none}
-use Rattle.soundness.specs.Sound.{filled}
 use Rattle.bench.specs.Calls.{soundBench, bindingsOn, gives, glueOn, priceOf}
 use Rattle.bench.specs.declared.Bench.{Bench}
 use Rattle.bench.specs.declared.Answer.the-variants.{Count, Refused}
-
-module _ (b : Bench) (u r : ℕ) (eu : u ≡ usage (filled (b .bound))) where
-  pub counted-glue : (r ≡ setCount (b .tables .width) (b .tables .prices) u) × (r ≤ 612000) → r ≡ glueOn b
-  unfolding glueOn
-  counted-glue h = h .0 ∙ ap (setCount (b .tables .width) (b .tables .prices)) eu ∙ price-is-glue (b .tables .width) (b .tables .prices) (bindingsOn b)
 
 module _ (b : Bench) (p : Bool) (ep : p ≡ soundBench b) where
   pub price-refused : not p ≡ true → gives b (Refused (refusal 20 0)) ≡ priceOf b
   unfolding priceOf
   price-refused h = rw (sym ep ∙ not-true p h) refl
 
-  pub price-counted : (g : ℕ) → not p ≡ false → (g ≡ glueOn b) × (g < 2 ^ 28) → gives b (Count g) ≡ priceOf b
-  unfolding priceOf
+  pub price-counted : (g : ℕ) → not p ≡ false → (g ≡ glue (b .tables .width) (b .tables .prices) (bindingsOn b)) × (g < 2 ^ 28)
+      → gives b (Count g) ≡ priceOf b
+  unfolding priceOf glueOn
   price-counted g h e = rw (sym ep ∙ not-false p h) (ap (λ (x : ℕ). gives b (Count x)) (e .0))
 
 -- "The empty bench prices at 0."

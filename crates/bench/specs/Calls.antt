@@ -1,31 +1,32 @@
 -- Document 01, "Mapper and bench" and "Refusals that come from the state": what each call answers, and the bench afterwards.
-use Prim.Native.Nat.{ℕ, _+_, _-_}
+use Prim.Native.Nat.{ℕ, _-_}
 use mathlib.Core.Path.{_≡_}
-use mathlib.Core.Bool.{Bool, false, not}
+use mathlib.Core.Bool.{Bool, not}
 use mathlib.Core.List.{List, [], _∷_, _++_}
 use lib.Dec.{eqb}
 use lib.ListN.{length, getD, set, replicate}
 use Rattle.words.specs.Choice.{if_then_else_}
-use Rattle.words.specs.Field.{sourceFunction}
 use Rattle.words.specs.Paper.{Paper, refusal, noRefusal, sourcePlace, accepted, told}
 use Rattle.alu.specs.Function.{noFunction}
 use Rattle.recipe.specs.Fields.{sourceOf}
 use Rattle.binding.specs.Right.{isRight}
 use Rattle.binding.specs.declared.Claim.{Claim}
 use Rattle.verdict.specs.Verdicts.{Differs, wrongPaper, Ruling, Gives, Names}
-use Rattle.reader.specs.Limits.{mostSources, mostTargets}
+use Rattle.sequence.specs.Limits.{mostSources, mostTargets}
 use Rattle.reader.specs.Job.{jobOf}
 use Rattle.reader.specs.declared.Job.{Job}
 use Rattle.reader.specs.declared.JobRead.{JobRead}
 use Rattle.reader.specs.declared.JobRead.the-variants as read
 use Rattle.table.specs.Parts.{sourcesOf, targetsOf}
-use Rattle.table.specs.Table.{inJob, claimIn}
+use Rattle.table.specs.Table.{inJob}
+use Rattle.claims.specs.Claim.{claimIn}
 use Rattle.glue.specs.Glue.{glue}
 use Rattle.writer.specs.Write.{mappingWords, writtenOf, lentAfter}
 use Rattle.writer.specs.declared.Written.{Written}
 use Rattle.writer.specs.declared.Written.the-variants as written
 use Rattle.soundness.specs.Sound.{nothing, filled, sourcesOn, targetsOn, ruleFault, isSound}
 use Rattle.soundness.specs.declared.Tables.{Tables}
+use Rattle.entries.specs.Entries.{entryOf, firstEmpty}
 use Rattle.bench.specs.declared.Bench.{Bench}
 use Rattle.bench.specs.declared.Answer.{Answer}
 use Rattle.bench.specs.declared.Answer.the-variants.{Done, Count, Mapping, Refused, Wrong}
@@ -103,11 +104,6 @@ openOf ws = openFor ws (jobOf ws)
 
 -- ---- bind: "20, 2, 3, 5, 6, 8, 21, 10; word places are 0"
 
--- the entry of the source whose function it is; the number of sources where there is none
-unfoldable pub entryOf : List ℕ → ℕ → ℕ
-entryOf [] f = 0
-entryOf (s ∷ ss) f = if eqb (sourceFunction s) f then 0 else entryOf ss f + 1
-
 -- the entry that a recipe is bound at
 abbrev pub entryFor : Bench → ℕ → ℕ
 entryFor b w = entryOf (sourcesOn (b .tables)) (sourceOf w)
@@ -173,12 +169,7 @@ priceOf b = gives b (if not (soundBench b) then Refused (refusal 20 0) else Coun
 
 -- ---- finish: 20, 22 (lowest), 23 last; writes the mapping
 
--- the function of the first source, which is the lowest, with nothing bound; `noFunction` for none
-unfoldable pub firstEmpty : List ℕ → List ℕ → ℕ
-firstEmpty [] bound = noFunction
-firstEmpty (s ∷ ss) [] = noFunction
-firstEmpty (s ∷ ss) (w ∷ bound) = if eqb w nothing then sourceFunction s else firstEmpty ss bound
-
+-- the function of the first source with nothing bound, or `noFunction`
 abbrev pub unboundOn : Bench → ℕ
 unboundOn b = firstEmpty (sourcesOn (b .tables)) (b .bound)
 

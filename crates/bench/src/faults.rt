@@ -1,13 +1,8 @@
 // Soundness, and the refusals of a bind.
 use crate::Bench;
-use crate::entries;
 use soundness::NOTHING;
-use verdict::Verdict;
 ghost use mathlib.Core.Path.{_≡_};
 ghost use mathlib.Core.Bool.{true};
-ghost use Prim.Native.Nat.{_≤_};
-ghost use Rattle.reader.specs.Limits.{mostSources};
-ghost use Rattle.verdict.specs.Verdicts as D;
 ghost use Rattle.bench.specs.Calls as C;
 
 pub fn is_sound(bench: Bench) -> bool
@@ -18,37 +13,14 @@ pub fn is_sound(bench: Bench) -> bool
     soundness::is_sound(tables, bound)
 }
 
-// Whether a rule's source is in the job, and its target too, if it has one.
-fn in_tables(bench: Bench, word: u32) -> bool
-    requires { ⌜ C.soundBench bench ≡ true ⌝ }
-    ensures { λ r. ⌜ r ≡ C.inTables bench word ⌝ }
-{
-    let tables = bench.tables;
-    let sources = tables.sources;
-    let targets = tables.targets;
-    let nsources = tables.nsources as usize;
-    let ntargets = tables.ntargets as usize;
-    table::in_job(&sources[..nsources], &targets[..ntargets], word)
-}
-
-// The entry of a rule's source.
-pub fn entry_for(bench: Bench, word: u32) -> usize
-    requires { ⌜ C.soundBench bench ≡ true ⌝ }
-    ensures { λ r. ⌜ (r ≡ C.entryFor bench word) × (r ≤ mostSources) ⌝ }
-{
-    let tables = bench.tables;
-    let sources = tables.sources;
-    let nsources = tables.nsources as usize;
-    entries::entry_of(&sources[..nsources], recipe::source_of(word))
-}
-
-// Whether something is bound in that entry.
+// Whether something is bound in the entry of a rule's source.
 fn is_taken(bench: Bench, word: u32) -> bool
     requires { ⌜ (C.soundBench bench ≡ true) × (C.inTables bench word ≡ true) ⌝ }
     ensures { λ r. ⌜ r ≡ C.isTaken bench word ⌝ }
 {
+    let tables = bench.tables;
     let bound = bench.bound;
-    let entry = entry_for(bench, word);
+    let entry = entries::entry_for(tables, word);
     bound[entry] != NOTHING
 }
 
@@ -63,7 +35,8 @@ pub fn bind_fault(bench: Bench, word: u32) -> u32
     if fault != words::NO_REFUSAL {
         return fault;
     }
-    if !in_tables(bench, word) {
+    let tables = bench.tables;
+    if !entries::in_tables(tables, word) {
         return 8;
     }
     if is_taken(bench, word) {
@@ -80,22 +53,4 @@ pub fn bind_place(fault: u32, word: u32) -> usize
         return recipe::source_of(word) as usize;
     }
     0
-}
-
-// The verdict on a rule under the bench's tables: refusal 10.
-pub fn verdict_on(bench: Bench, word: u32) -> Verdict
-    requires { ⌜ C.soundBench bench ≡ true ⌝ }
-    ensures { λ r. ⌜ D.Says (C.claimOn bench word) (bench .tables .width) r ⌝ }
-{
-    let tables = bench.tables;
-    let sources = tables.sources;
-    let targets = tables.targets;
-    let nsources = tables.nsources as usize;
-    let ntargets = tables.ntargets as usize;
-    table::verdict_on(
-        &sources[..nsources],
-        &targets[..ntargets],
-        word,
-        tables.width,
-    )
 }

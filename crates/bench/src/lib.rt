@@ -1,11 +1,10 @@
 // The bench: a mapping put together by hand. Document 01, "Mapper and bench" and "Refusals that come from the state". A bench
 // passes through each call by value and the next bench comes back, with the answer.
-mod entries;
 mod faults;
 mod opening;
 
 use reader::JobRead;
-use reader::MOST_SOURCES;
+use sequence::MOST_SOURCES;
 use soundness::Tables;
 use verdict::Verdict;
 use words::Refusal;
@@ -13,7 +12,6 @@ use words::Witness;
 use writer::Written;
 ghost use mathlib.Core.Path.{_≡_};
 ghost use mathlib.Core.Bool.{true};
-ghost use Prim.Native.Nat.{_<_, _^_};
 ghost use Rattle.writer.specs.Write as W;
 ghost use Rattle.bench.specs.Calls as C;
 
@@ -38,29 +36,6 @@ pub struct After {
     pub answer: Answer,
 }
 
-// The glue count of what is bound.
-fn glue_on(bench: Bench) -> u32
-    requires { ⌜ C.soundBench bench ≡ true ⌝ }
-    ensures { λ r. ⌜ (r ≡ C.glueOn bench) × (r < 2 ^ 28) ⌝ }
-{
-    let tables = bench.tables;
-    let prices = tables.prices;
-    let bound = bench.bound;
-    glue::price(entries::usage_of(&bound), tables.width, prices)
-}
-
-// The function of the first source with nothing bound, or NO_FUNCTION.
-fn unbound_on(bench: Bench) -> u32
-    requires { ⌜ C.soundBench bench ≡ true ⌝ }
-    ensures { λ r. ⌜ r ≡ C.unboundOn bench ⌝ }
-{
-    let tables = bench.tables;
-    let sources = tables.sources;
-    let nsources = tables.nsources as usize;
-    let bound = bench.bound;
-    entries::first_empty(&sources[..nsources], &bound)
-}
-
 // Writes the mapping of a bench whose sources are all bound: refusal 23.
 fn write(bench: Bench, lent: &mut [u32]) -> Answer
     requires { ⌜ (C.soundBench bench ≡ true) × (C.unboundOn bench ≡ 0) ⌝ }
@@ -70,7 +45,7 @@ fn write(bench: Bench, lent: &mut [u32]) -> Answer
     let tables = bench.tables;
     let nsources = tables.nsources as usize;
     let bound = bench.bound;
-    let glue = glue_on(bench);
+    let glue = entries::glue_on(tables, bound);
     let written = writer::write_mapping(tables.width, &bound[..nsources], glue, lent);
     match written {
         Written::Refused(refusal) => Answer::Refused(refusal),
@@ -110,8 +85,9 @@ impl Bench {
                 }),
             };
         }
-        let entry = faults::entry_for(self, word);
-        let verdict = faults::verdict_on(self, word);
+        let tables = self.tables;
+        let entry = entries::entry_for(tables, word);
+        let verdict = entries::verdict_on(tables, word);
         match verdict {
             Verdict::Wrong(witness) => After {
                 bench: self,
@@ -140,9 +116,11 @@ impl Bench {
                 }),
             };
         }
+        let tables = self.tables;
+        let bound = self.bound;
         After {
             bench: self,
-            answer: Answer::Count(glue_on(self)),
+            answer: Answer::Count(entries::glue_on(tables, bound)),
         }
     }
 
@@ -160,7 +138,9 @@ impl Bench {
                 }),
             };
         }
-        let unbound = unbound_on(self);
+        let tables = self.tables;
+        let bound = self.bound;
+        let unbound = entries::unbound_on(tables, bound);
         if unbound != alu::NO_FUNCTION {
             return After {
                 bench: self,

@@ -1,8 +1,8 @@
 // The bench of a job, with nothing bound, and the bench of zeros.
 use crate::Bench;
 use reader::Job;
-use reader::MOST_SOURCES;
-use reader::MOST_TARGETS;
+use sequence::MOST_SOURCES;
+use sequence::MOST_TARGETS;
 use soundness::NOTHING;
 use soundness::Tables;
 use words::Prices;
@@ -10,7 +10,7 @@ ghost use mathlib.Core.Path.{_≡_};
 ghost use Prim.Native.Nat.{_≤_};
 ghost use lib.ListN.{length};
 ghost use Rattle.reader.specs.Job as J;
-ghost use Rattle.reader.specs.Limits.{mostSources, mostTargets};
+ghost use Rattle.sequence.specs.Limits.{mostSources, mostTargets};
 ghost use Rattle.bench.specs.Calls as C;
 
 // What a job of zeros would be.

@@ -1,26 +1,29 @@
 // The bench's calls, on benches as the reference has them: 87 words. Here alone a bench and its answers are taken apart.
 use crate::files::LENT;
 use crate::files::lent_holds;
+use accounts::sound::BOUND;
+use accounts::sound::NSOURCES;
+use accounts::sound::NTARGETS;
+use accounts::sound::TARGETS;
+use accounts::sound::WIDTH;
 use bench::After;
 use bench::Bench;
 use checker::Checked;
-use reference::Answer;
-use reference::DONE;
-use reference::OF_WORD;
-use reference::PRICED;
-use reference::WRITTEN;
-use reference::answered;
-use reference::at;
-use reference::sound::BOUND;
-use reference::sound::NSOURCES;
-use reference::sound::NTARGETS;
-use reference::sound::TARGETS;
-use reference::sound::WIDTH;
+use reference::answer::Answer;
+use reference::answer::DONE;
+use reference::answer::OF_WORD;
+use reference::answer::PRICED;
+use reference::answer::WRITTEN;
+use reference::answer::answered;
+use reference::answer::wrong;
+use reference::trial::Witness;
+use reference::trial::bears_out;
 use soundness::Tables;
+use testing::words::at;
+use testing::words::put;
 use words::Prices;
-ghost use Prim.Native.Nat.{_≤_};
 
-// The 27 words of a bench from a place on.
+// The 27 words of a bench from an index on.
 fn table_of(words: [u32; 87], from: usize) -> [u32; 27] {
     let mut table = [0u32; 27];
     let mut i = 0;
@@ -51,6 +54,15 @@ fn bench_of(words: [u32; 87]) -> Bench {
     }
 }
 
+// Sets the words of a bench from an index on.
+fn put_table(words: &mut [u32], from: usize, table: [u32; 27]) {
+    let mut i = 0;
+    while i < 27 {
+        put(words, std::num::wrapping_add_usize(from, i), table[i]);
+        i += 1;
+    }
+}
+
 fn words_of(bench: Bench) -> [u32; 87] {
     let tables = bench.tables;
     let prices = tables.prices;
@@ -58,13 +70,9 @@ fn words_of(bench: Bench) -> [u32; 87] {
     let targets = tables.targets;
     let bound = bench.bound;
     let mut words = [0u32; 87];
-    let mut i = 0;
-    while i < 27 {
-        words[i] = sources[i];
-        words[i + 27] = targets[i];
-        words[i + 54] = bound[i];
-        i += 1;
-    }
+    put_table(&mut words, 0, sources);
+    put_table(&mut words, TARGETS, targets);
+    put_table(&mut words, BOUND, bound);
     words[WIDTH] = tables.width;
     words[NSOURCES] = tables.nsources;
     words[NTARGETS] = tables.ntargets;
@@ -74,20 +82,31 @@ fn words_of(bench: Bench) -> [u32; 87] {
     words
 }
 
-fn of_answer(answer: bench::Answer) -> Answer {
+// Whether a witness shows that a rule is wrong at a width.
+fn is_shown(rule: u32, n: u32, witness: words::Witness) -> bool {
+    bears_out(
+        rule,
+        n,
+        Witness {
+            function: witness.function,
+            port: witness.port,
+            left: witness.left,
+            right: witness.right,
+            carry: witness.carry,
+        },
+    )
+}
+
+// The answer to a call with a rule, 0 where it has none, on a bench of a width.
+fn of_answer(answer: bench::Answer, rule: u32, n: u32) -> Answer {
     match answer {
         bench::Answer::Done => answered(DONE, 0, 0),
-        bench::Answer::Count(n) => answered(PRICED, 0, n as usize),
-        bench::Answer::Mapping(n) => answered(WRITTEN, 0, n),
+        bench::Answer::Count(count) => answered(PRICED, 0, count as usize),
+        bench::Answer::Mapping(size) => answered(WRITTEN, 0, size),
         bench::Answer::Refused(refusal) => answered(OF_WORD, refusal.number, refusal.place),
-        bench::Answer::Wrong(witness) => reference::wrong(
-            OF_WORD,
-            witness.function,
-            witness.port,
-            witness.left,
-            witness.right,
-            witness.carry,
-        ),
+        bench::Answer::Wrong(witness) => {
+            wrong(OF_WORD, witness.function, is_shown(rule, n, witness))
+        }
     }
 }
 
@@ -100,43 +119,44 @@ pub struct Told {
     pub printed: bool,
 }
 
-fn told_by(after: After, lent: &[u32]) -> Told {
+fn told_by(after: After, lent: &[u32], rule: u32) -> Told {
     let answer = after.answer;
-    let bench = after.bench;
+    let bench = words_of(after.bench);
     Told {
-        answer: of_answer(answer),
-        bench: words_of(bench),
+        answer: of_answer(answer, rule, bench[WIDTH]),
+        bench,
         untouched: lent_holds(lent, 0),
         printed: lent_holds(lent, 6),
     }
 }
 
 pub fn open(job: &[u32]) -> Told {
-    told_by(Bench::open(job), &[])
+    told_by(Bench::open(job), &[], 0)
 }
 
 pub fn bind(words: [u32; 87], rule: u32) -> Told {
     let bench = bench_of(words);
-    told_by(bench.bind(rule), &[])
+    told_by(bench.bind(rule), &[], rule)
 }
 
 pub fn price(words: [u32; 87]) -> Told {
     let bench = bench_of(words);
-    told_by(bench.price(), &[])
+    told_by(bench.price(), &[], 0)
 }
 
 fn finish_into(words: [u32; 87], lent: &mut [u32]) -> Told {
     let bench = bench_of(words);
     let after = bench.finish(lent);
-    told_by(after, lent)
+    told_by(after, lent, 0)
 }
 
-// Finishes into so many lent words.
-pub fn finish(words: [u32; 87], size: usize) -> Told
-    requires { ⌜ size ≤ 32 ⌝ }
-{
+// Finishes into so many lent words, 32 at most.
+pub fn finish(words: [u32; 87], size: usize) -> Told {
     let mut lent = [LENT; 32];
-    finish_into(words, &mut lent[..size])
+    if size < 32 {
+        return finish_into(words, &mut lent[..size]);
+    }
+    finish_into(words, &mut lent)
 }
 
 // Whether the checker accepts the words that a bench of the printed job writes.
@@ -144,7 +164,7 @@ pub fn is_accepted(words: [u32; 87]) -> bool {
     let bench = bench_of(words);
     let mut lent = [LENT; 6];
     let after = bench.finish(&mut lent);
-    let checked = checker::check(&reference::JOB, &lent);
+    let checked = checker::check(&testing::words::JOB, &lent);
     if let Checked::Accepted = checked {
         true
     } else {

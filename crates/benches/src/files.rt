@@ -1,12 +1,14 @@
 // The rules of the mapping that document 01 prints, benches put together without the library, and words beside each other.
-use reference::MAPPING;
-use reference::at;
-use reference::sound::BOUND;
-use reference::sound::NSOURCES;
-use reference::sound::NTARGETS;
-use reference::sound::TARGETS;
-use reference::sound::WIDTH;
-use reference::word_of;
+use accounts::sound::BOUND;
+use accounts::sound::NSOURCES;
+use accounts::sound::NTARGETS;
+use accounts::sound::TARGETS;
+use accounts::sound::WIDTH;
+use std::num::wrapping_add_usize;
+use testing::words::MAPPING;
+use testing::words::at;
+use testing::words::put;
+use testing::words::word_of;
 
 // In the order of the printed job's sources.
 pub const ADD_RULE: u32 = 0x5085_4960;
@@ -25,8 +27,16 @@ pub const WRONG_LT_RULE: u32 = 0x5C89_4407;
 // What a lent word holds before.
 pub const LENT: u32 = 0xEEEE_EEEE;
 
-// The bench of the printed job at a width, with these words at its four places.
-pub fn printed_bench(width: u32, add: u32, rsub: u32, and: u32, lt: u32) -> [u32; 87] {
+// A set of what is bound, by bits: the four rules in order, and the wrong rule instead of LT's.
+pub const ADD_AND_LT: u32 = 13;
+
+pub const ALL: u32 = 15;
+
+// Among the sets: the job of LT and, as its target, RINHI, with nothing bound.
+pub const INHIBIT: u32 = 32;
+
+// The bench of the printed job at a width, with a set of rules bound.
+fn printed_bench(width: u32, bound: u32) -> [u32; 87] {
     let mut words = [0u32; 87];
     words[0] = 0x3000_0001;
     words[1] = 0x3000_0003;
@@ -34,17 +44,32 @@ pub fn printed_bench(width: u32, add: u32, rsub: u32, and: u32, lt: u32) -> [u32
     words[3] = 0x3000_0019;
     words[TARGETS] = 0x4000_0001;
     words[28] = 0x4000_0002;
-    words[BOUND] = add;
-    words[55] = rsub;
-    words[56] = and;
-    words[57] = lt;
     words[WIDTH] = width;
     words[NSOURCES] = 4;
     words[NTARGETS] = 2;
     words[84] = 1;
     words[85] = 1;
     words[86] = 3;
+    bind_set(&mut words, bound);
     words
+}
+
+// The rule by its index, where b, or 0.
+fn rule_if(b: bool, i: usize) -> u32 {
+    if b { at(&RULES, i) } else { 0 }
+}
+
+fn bind_set(words: &mut [u32], bound: u32) {
+    let mut rest = bound;
+    let mut i = 0;
+    while i < 4 {
+        put(words, i + BOUND, rule_if(rest % 2 == 1, i));
+        rest = rest / 2;
+        i += 1;
+    }
+    if rest == 1 {
+        put(words, 57, WRONG_LT_RULE);
+    }
 }
 
 // A job of LT and, as its target, RINHI, with this word bound.
@@ -59,20 +84,36 @@ pub fn inhibit_bench(width: u32, word: u32) -> [u32; 87] {
     words
 }
 
+// A bench at a width by a set of what is bound; width 0 stands for the bench of zeros.
+pub fn bench_with(width: u32, bound: u32) -> [u32; 87] {
+    if width == 0 {
+        return [0u32; 87];
+    }
+    if bound == INHIBIT {
+        return inhibit_bench(width, 0);
+    }
+    printed_bench(width, bound)
+}
+
+// Sets the words of a kind for all functions, from an index on.
+fn put_functions(words: &mut [u32], from: usize, kind: u32) {
+    let mut i: u32 = 0;
+    while i < 27 {
+        let index = wrapping_add_usize(from, i as usize);
+        put(words, index, word_of(kind, i + 1));
+        i += 1;
+    }
+}
+
 // The largest bench: every function a source and a target, and each bound to itself.
 pub fn whole_bench(width: u32) -> [u32; 87] {
     let mut words = [0u32; 87];
     words[WIDTH] = width;
     words[NSOURCES] = 27;
     words[NTARGETS] = 27;
-    let mut place = 0;
-    while place < 27 {
-        let function = place as u32 + 1;
-        words[place] = word_of(3, function);
-        words[place + 27] = word_of(4, function);
-        words[place + 54] = word_of(5, function);
-        place += 1;
-    }
+    put_functions(&mut words, 0, 3);
+    put_functions(&mut words, TARGETS, 4);
+    put_functions(&mut words, BOUND, 5);
     words
 }
 

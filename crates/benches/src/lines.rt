@@ -1,32 +1,25 @@
 // What the program writes of an answer.
-use reference::Answer;
-use reference::DONE;
-use reference::PRICED;
-use reference::say;
+use reference::answer::Answer;
+use reference::answer::DONE;
+use testing::names::name_at;
+use testing::say;
 
-// Of refusal 10 the function; the operands are the program's choice.
-pub fn answer(told: Answer) {
+// The forms from DONE on.
+const FORMS: [u8; 34] = *b": done|: price #|: words written #";
+
+// After a name. Of refusal 10 the function; the operands are the program's choice.
+pub fn answer(name: &[u8], told: Answer) {
+    say::text(name);
+    let place = told.place as u64;
     if told.number != 0 {
-        say::count(b": refused ", told.number as u64);
-        say::count(b" ", told.place as u64);
+        say::line(b": refused # #", &[told.number as u64, place]);
         return;
     }
-    if told.form == DONE {
-        say::text(b": done");
-        return;
-    }
-    if told.form == PRICED {
-        say::count(b": price ", told.place as u64);
-        return;
-    }
-    say::count(b": words written ", told.place as u64);
+    let form = std::num::wrapping_sub_u32(told.form, DONE) as usize;
+    say::line(name_at(&FORMS, form), &[place]);
 }
 
-// Whether something is as it should be.
-pub fn whether(b: bool, if_so: &[u8], if_not: &[u8]) {
-    if b {
-        say::text(if_so);
-    } else {
-        say::text(if_not);
-    }
+// The first of two names where something is as it should be, else the second.
+pub fn whether(b: bool, names: &[u8]) {
+    say::text(name_at(names, !b as usize));
 }

@@ -2,95 +2,115 @@
 use crate::calls;
 use crate::files::same_bench;
 use crate::lines;
-use reference::JOB;
-use reference::say;
+use testing::names::name_at;
+use testing::say;
+use testing::words::JOB;
+use testing::words::first;
+use testing::words::put;
+
+// So many words of the printed job, or of a longer one.
+const SIZES: [usize; 8] = [14, 0, 515, 516, 568, 569, 1, 2];
+
+const SIZE_NAMES: [u8; 97] = *b"the printed job|no words|512 rules|a 513th|568 words|569 words\
+    |a header alone|a header and prices";
+
+// The printed job with one word set to another, by hexadecimal digits: two for its index, eight for the word.
+const CHANGES: [u64; 24] = [
+    0x00_2001_0103,
+    0x02_4000_0001,
+    0x07_3000_001A,
+    0x08_6085_4960,
+    0x00_1000_0040,
+    0x00_1000_0041,
+    0x00_1000_0000,
+    0x00_1000_0090,
+    0x01_2101_0103,
+    0x02_3000_0000,
+    0x05_3000_001C,
+    0x07_4000_001C,
+    0x08_5085_4970,
+    0x08_5087_4960,
+    0x08_5080_0001,
+    0x03_3000_0001,
+    0x05_3000_0002,
+    0x07_4000_0001,
+    0x0C_5C89_4401,
+    0x08_5085_4940,
+    0x08_5085_4963,
+    0x08_6FFF_FFFF,
+    0x03_3000_0000,
+    0x08_5085_4801,
+];
+
+const CHANGE_NAMES: [u8; 396] =
+    *b"prices first|a target before any source|a source after a target|a binding for a rule\
+    |width 64|width 65|width 0|bit 7 of the header|bit 24 of the prices|source 0|source 28\
+    |target 28|bit 4 of a rule|left wiring 6|ADD from scratch\
+    |a source twice|a source below the one before|a target twice\
+    |a rule that reads TO1 of SUB|a rule without overflow|a rule with O1 besides\
+    |2 before 3|3 before 4|5 before 6";
 
 // Opens a job; refused, it hands back the bench of zeros.
 fn show(name: &[u8], words: &[u32]) {
     let opened = calls::open(words);
     let told = opened.answer;
     let bench = opened.bench;
-    let zeros = [0u32; 87];
     say::text(b"    ");
-    say::text(name);
-    lines::answer(told);
-    lines::whether(same_bench(&bench, &zeros), b", zeros\n", b"\n");
-}
-
-// The printed job with another word at a place.
-fn show_with(name: &[u8], place: usize, word: u32) {
-    let mut words = JOB;
-    let at = place % 14;
-    words[at] = word;
-    show(name, &words);
+    lines::answer(name, told);
+    lines::whether(same_bench(&bench, &[0u32; 87]), b", zeros\n|\n");
 }
 
 // AND, no targets, and AND from scratch as often as there is room.
-fn show_long() {
+fn show_long(name: &[u8], size: usize) {
     let mut words = [0x5400_0001u32; 569];
     words[0] = 0x1000_0010;
     words[1] = 0x2001_0103;
     words[2] = 0x3000_0008;
-    show(b"512 rules", &words[..515]);
-    show(b"a 513th", &words[..516]);
-    show(b"568 words", &words[..568]);
-    show(b"569 words", &words);
+    show(name, first(&words, size));
 }
 
-fn show_kinds() {
-    show_with(b"prices first", 0, 0x2001_0103);
-    show_with(b"a target before any source", 2, 0x4000_0001);
-    show_with(b"a source after a target", 7, 0x3000_001A);
-    show_with(b"a binding for a rule", 8, 0x6085_4960);
-    show_with(b"width 64", 0, 0x1000_0040);
-    show_with(b"width 65", 0, 0x1000_0041);
+fn show_size(name: &[u8], size: usize) {
+    if size > 14 {
+        show_long(name, size);
+    } else {
+        show(name, first(&JOB, size));
+    }
 }
 
-fn show_layout() {
-    show_with(b"width 0", 0, 0x1000_0000);
-    show_with(b"bit 7 of the header", 0, 0x1000_0090);
-    show_with(b"bit 24 of the prices", 1, 0x2101_0103);
-    show_with(b"source 0", 2, 0x3000_0000);
-    show_with(b"source 28", 5, 0x3000_001C);
+fn show_sizes() {
+    let mut i = 0;
+    while i < 8 {
+        show_size(name_at(&SIZE_NAMES, i), SIZES[i]);
+        i += 1;
+    }
 }
 
-fn show_rules() {
-    show_with(b"target 28", 7, 0x4000_001C);
-    show_with(b"bit 4 of a rule", 8, 0x5085_4970);
-    show_with(b"left wiring 6", 8, 0x5087_4960);
-    show_with(b"ADD from scratch", 8, 0x5080_0001);
+fn show_changed(name: &[u8], job: [u32; 14], row: u64) {
+    let mut words = job;
+    let word = (row % 0x1_0000_0000) as u32;
+    put(&mut words, (row / 0x1_0000_0000) as usize, word);
+    show(name, &words);
 }
 
-fn show_repeated() {
-    show_with(b"a source twice", 3, 0x3000_0001);
-    show_with(b"a source below the one before", 5, 0x3000_0002);
-    show_with(b"a target twice", 7, 0x4000_0001);
-    show_with(b"a rule that reads TO1 of SUB", 12, 0x5C89_4401);
-    show_with(b"a rule without overflow", 8, 0x5085_4940);
-    show_with(b"a rule with O1 besides", 8, 0x5085_4963);
+fn show_change(i: usize) {
+    if i < 24 {
+        show_changed(name_at(&CHANGE_NAMES, i), JOB, CHANGES[i]);
+    }
 }
 
-fn show_first() {
-    show_with(b"2 before 3", 8, 0x6FFF_FFFF);
-    show_with(b"3 before 4", 3, 0x3000_0000);
-    show_with(b"5 before 6", 8, 0x5085_4801);
-    let mut two = JOB;
-    two[5] = 0x3000_001C;
-    two[3] = 0x3000_0001;
-    show(b"the first of two words", &two);
+fn show_changes() {
+    let mut i = 0;
+    while i < 24 {
+        show_change(i);
+        i += 1;
+    }
 }
 
 pub fn report() {
-    let job = JOB;
     say::text(b"open\n");
-    show(b"the printed job", &job);
-    show(b"no words", &job[..0]);
-    show_long();
-    show(b"a header alone", &job[..1]);
-    show(b"a header and prices", &job[..2]);
-    show_kinds();
-    show_layout();
-    show_rules();
-    show_repeated();
-    show_first();
+    show_sizes();
+    show_changes();
+    let mut other = JOB;
+    other[5] = 0x3000_001C;
+    show_changed(b"the first of two words", other, 0x03_3000_0001);
 }

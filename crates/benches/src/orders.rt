@@ -1,19 +1,17 @@
 // The printed job bound in every order.
 use crate::calls;
-use crate::files::ADD_RULE;
-use crate::files::AND_RULE;
-use crate::files::LT_RULE;
-use crate::files::RSUB_RULE;
+use crate::files::ALL;
 use crate::files::RULES;
-use crate::files::printed_bench;
+use crate::files::bench_with;
 use crate::files::same_bench;
-use reference::DONE;
-use reference::JOB;
-use reference::WRITTEN;
-use reference::answered;
-use reference::more;
-use reference::same_answer;
-use reference::say;
+use crate::runs::Run;
+use crate::runs::begun;
+use crate::runs::with_bound;
+use reference::answer::WRITTEN;
+use reference::answer::answered;
+use reference::answer::same_answer;
+use testing::say;
+use testing::tally::more;
 
 // Orders tried; those in which every bind was done; that end in the stored bench; and in the printed words.
 struct Orders {
@@ -38,32 +36,33 @@ fn is_order(code: u32) -> bool {
 }
 
 // The rules bound in an order.
-fn with_order(all: Orders, code: u32) -> Orders {
-    let opened = calls::open(&JOB);
-    let mut bench = opened.bench;
+fn bound_in(code: u32) -> Run {
+    let mut run = begun();
     let mut rest = code;
-    let mut done: u64 = 0;
     let mut i: u32 = 0;
     while i < 4 {
         let rule = (rest % 4) as usize;
-        let after = calls::bind(bench, RULES[rule]);
-        let told = after.answer;
-        let next = after.bench;
-        bench = next;
-        done = more(done, told.form == DONE);
+        let next = with_bound(run, RULES[rule]);
+        run = next;
         rest = rest / 4;
         i += 1;
     }
-    let full = printed_bench(16, ADD_RULE, RSUB_RULE, AND_RULE, LT_RULE);
+    run
+}
+
+fn with_order(all: Orders, code: u32) -> Orders {
+    let run = bound_in(code);
+    let bench = run.bench;
+    let full = bench_with(16, ALL);
     Orders {
         tried: more(all.tried, true),
-        done: more(all.done, done == 4),
+        done: more(all.done, run.done == 4),
         same: more(all.same, same_bench(&bench, &full)),
         written: more(all.written, writes_the_mapping(bench)),
     }
 }
 
-pub fn report() {
+fn with_orders() -> Orders {
     let mut all = Orders {
         tried: 0,
         done: 0,
@@ -78,9 +77,13 @@ pub fn report() {
         }
         code += 1;
     }
-    say::count(b"the four rules in each order: ", all.tried);
-    say::count(b" tried, all binds done in ", all.done);
-    say::count(b", the same bench in ", all.same);
-    say::count(b", the printed mapping in ", all.written);
-    say::text(b"\n");
+    all
+}
+
+pub fn report() {
+    let all = with_orders();
+    say::line(
+        b"the four rules in each order: # tried, all binds done in #, the same bench in #, the printed mapping in #\n",
+        &[all.tried, all.done, all.same, all.written],
+    );
 }

@@ -6,13 +6,13 @@ use crate::files::WRONG_LT_RULE;
 use crate::files::same_bench;
 use crate::lines;
 use crate::orders::writes_the_mapping;
-use reference::DONE;
-use reference::JOB;
-use reference::OF_WORD;
-use reference::answered;
-use reference::more;
-use reference::same_answer;
-use reference::say;
+use reference::answer::DONE;
+use reference::answer::OF_WORD;
+use reference::answer::answered;
+use reference::answer::same_answer;
+use testing::say;
+use testing::tally::more;
+use testing::words::JOB;
 
 // Rules that bind refuses as long as LT is not bound, and the numbers.
 const REFUSED: [u32; 8] = [
@@ -33,12 +33,25 @@ const UNBOUND: [usize; 4] = [1, 3, 8, 25];
 
 // The bench of a run; its calls that were to be refused; those that were, as expected; those that left the bench, and the lent words,
 // as they were; and the binds that were done.
-struct Run {
-    bench: [u32; 87],
+pub struct Run {
+    pub bench: [u32; 87],
     tried: u64,
     refused: u64,
     kept: u64,
-    done: u64,
+    pub done: u64,
+}
+
+// The printed job opened.
+pub fn begun() -> Run {
+    let opened = calls::open(&JOB);
+    let bench = opened.bench;
+    Run {
+        bench,
+        tried: 0,
+        refused: 0,
+        kept: 0,
+        done: 0,
+    }
 }
 
 // A call that was to be refused.
@@ -72,7 +85,7 @@ fn with_each_refused(run: Run) -> Run {
     run
 }
 
-fn with_bound(run: Run, word: u32) -> Run {
+pub fn with_bound(run: Run, word: u32) -> Run {
     let bench = run.bench;
     let told = calls::bind(bench, word);
     let answer = told.answer;
@@ -86,47 +99,42 @@ fn with_bound(run: Run, word: u32) -> Run {
     }
 }
 
+// A finish into so many words, which is to be refused.
+fn with_finish(run: Run, size: usize, number: u32, place: usize) -> Run {
+    let bench = run.bench;
+    let told = calls::finish(bench, size);
+    let answer = told.answer;
+    let refused = same_answer(answer, answered(OF_WORD, number, place));
+    noted(run, told, refused)
+}
+
 // Refused calls and a finish into words that are enough; then a bind, and the same bind again.
-fn with_steps(run: Run) -> Run {
-    let mut run = run;
+fn with_step(run: Run, rule: u32, unbound: usize) -> Run {
+    let kept = with_finish(with_each_refused(run), 6, 22, unbound);
+    with_refused(with_bound(kept, rule), rule, 21)
+}
+
+fn with_steps() -> Run {
+    let mut run = begun();
     let mut i = 0;
     while i < 4 {
-        let begun = with_each_refused(run);
-        let bench = begun.bench;
-        let told = calls::finish(bench, 6);
-        let answer = told.answer;
-        let unbound = same_answer(answer, answered(OF_WORD, 22, UNBOUND[i]));
-        let bound = with_bound(noted(begun, told, unbound), RULES[i]);
-        let next = with_refused(bound, RULES[i], 21);
+        let next = with_step(run, RULES[i], UNBOUND[i]);
         run = next;
         i += 1;
     }
     run
 }
 
+// At the end a finish into words that are too few.
 pub fn report() {
-    let opened = calls::open(&JOB);
-    let bench = opened.bench;
-    let steps = with_steps(Run {
-        bench,
-        tried: 0,
-        refused: 0,
-        kept: 0,
-        done: 0,
-    });
-    // A finish into words that are too few.
-    let full = steps.bench;
-    let told = calls::finish(full, 5);
-    let answer = told.answer;
-    let run = noted(steps, told, same_answer(answer, answered(OF_WORD, 23, 6)));
-    say::count(b"a run with refused calls: ", run.tried);
-    say::count(b" tried, refused as expected ", run.refused);
-    say::count(b", bench and lent words kept ", run.kept);
-    say::count(b"; binds done ", run.done);
+    let run = with_finish(with_steps(), 5, 23, 6);
+    say::line(
+        b"a run with refused calls: # tried, refused as expected #, bench and lent words kept #; binds done #",
+        &[run.tried, run.refused, run.kept, run.done],
+    );
     let last = run.bench;
     lines::whether(
         writes_the_mapping(last),
-        b"; the printed mapping written\n",
-        b"; OTHER WORDS WRITTEN\n",
+        b"; the printed mapping written\n|; OTHER WORDS WRITTEN\n",
     );
 }

@@ -1,24 +1,20 @@
 // The bench's calls on spoilt benches, beside the reference's account of which are sound.
 use crate::calls;
 use crate::calls::Told;
-use crate::files::ADD_RULE;
-use crate::files::AND_RULE;
-use crate::files::LT_RULE;
+use crate::files::ADD_AND_LT;
 use crate::files::RSUB_RULE;
+use crate::files::bench_with;
 use crate::files::inhibit_bench;
-use crate::files::printed_bench;
 use crate::files::same_bench;
 use crate::files::whole_bench;
-use reference::JOB;
-use reference::MAPPING;
-use reference::OF_WORD;
-use reference::PRICED;
-use reference::answered;
-use reference::at;
-use reference::more;
-use reference::same_answer;
-use reference::say;
-use std::num::wrapping_sub_usize;
+use accounts::sound::is_sound;
+use reference::answer::OF_WORD;
+use reference::answer::PRICED;
+use reference::answer::answered;
+use reference::answer::same_answer;
+use testing::say;
+use testing::tally::more;
+use testing::words::printed_word;
 
 // Benches tried, those that the reference calls sound, and those on which the bench's calls say otherwise.
 struct Tally {
@@ -44,14 +40,17 @@ fn is_fair(told: Told, bench: [u32; 87], sound: bool) -> bool {
     (refused ^ sound) & (sound | kept)
 }
 
+// A bench that is sound is priced, and keeps as it is.
+fn price_is_fair(bench: [u32; 87], sound: bool) -> bool {
+    let told = calls::price(bench);
+    let price = told.answer;
+    let next = told.bench;
+    ((price.form == PRICED) ^ !sound) & same_bench(&next, &bench) & is_fair(told, bench, sound)
+}
+
 fn with(all: Tally, bench: [u32; 87]) -> Tally {
-    let sound = reference::sound::is_sound(&bench);
-    let priced = calls::price(bench);
-    let price = priced.answer;
-    let next = priced.bench;
-    let fair = ((price.form == PRICED) ^ !sound)
-        & same_bench(&next, &bench)
-        & is_fair(priced, bench, sound)
+    let sound = is_sound(&bench);
+    let fair = price_is_fair(bench, sound)
         & is_fair(calls::bind(bench, RSUB_RULE), bench, sound)
         & is_fair(calls::finish(bench, 29), bench, sound);
     Tally {
@@ -65,8 +64,8 @@ fn with(all: Tally, bench: [u32; 87]) -> Tally {
 fn turned(bench: [u32; 87], i: u32) -> [u32; 87] {
     let mut words = bench;
     if i < 2688 {
-        let place = (i / 32) as usize;
-        words[place] = words[place] ^ (1u32 << (i % 32));
+        let index = (i / 32) as usize;
+        words[index] = words[index] ^ (1u32 << (i % 32));
         return words;
     }
     let price = (i / 8 % 3 + 84) as usize;
@@ -85,14 +84,13 @@ fn with_each_bit(bench: [u32; 87]) -> Tally {
     all
 }
 
-// The words of the printed job and of its mapping, and 0, in each place of the three tables.
+// The words of the printed job and of its mapping, and 0, at each index of the three tables.
 fn with_each_word(bench: [u32; 87]) -> Tally {
     let mut all = empty();
     let mut i = 0;
     while i < 1701 {
         let mut words = bench;
-        let which = i / 81;
-        words[i % 81] = at(&JOB, which) | at(&MAPPING, wrapping_sub_usize(which, 14));
+        words[i % 81] = printed_word(i / 81);
         let next = with(all, words);
         all = next;
         i += 1;
@@ -101,38 +99,30 @@ fn with_each_word(bench: [u32; 87]) -> Tally {
 }
 
 fn report_group(name: &[u8], all: Tally) {
-    say::text(b"    ");
     say::text(name);
-    say::count(b": ", all.tried);
-    say::count(b" tried, ", all.sound);
-    say::count(
-        b" sound, ",
-        std::num::wrapping_sub_u64(all.tried, all.sound),
+    let unsound = std::num::wrapping_sub_u64(all.tried, all.sound);
+    say::line(
+        b": # tried, # sound, # not, # differ\n",
+        &[all.tried, all.sound, unsound, all.differ],
     );
-    say::count(b" not, ", all.differ);
-    say::text(b" differ\n");
 }
 
 fn report_bench(name: &[u8], bench: [u32; 87]) {
     say::text(name);
-    report_group(b"as it is", with(empty(), bench));
-    report_group(b"a bit turned", with_each_bit(bench));
-    report_group(b"a word replaced", with_each_word(bench));
+    report_group(b"\n    as it is", with(empty(), bench));
+    report_group(b"    a bit turned", with_each_bit(bench));
+    report_group(b"    a word replaced", with_each_word(bench));
 }
 
 pub fn report() {
     report_bench(
-        b"the printed job at width 3, ADD, AND and LT bound\n",
-        printed_bench(3, ADD_RULE, 0, AND_RULE, LT_RULE),
+        b"the printed job at width 3, ADD, AND and LT bound",
+        bench_with(3, ADD_AND_LT),
     );
     report_bench(
-        b"LT as GOR of RINHI at width 1\n",
+        b"LT as GOR of RINHI at width 1",
         inhibit_bench(1, 0x5CCD_4003),
     );
-    report_bench(
-        b"every function bound to itself at width 2\n",
-        whole_bench(2),
-    );
-    let zeros = [0u32; 87];
-    report_bench(b"zeros\n", zeros);
+    report_bench(b"every function bound to itself at width 2", whole_bench(2));
+    report_bench(b"zeros", [0u32; 87]);
 }

@@ -5,9 +5,9 @@ use mathlib.Core.List.{List, [], _∷_}
 use Prim.Native.Nat.{ℕ, _-_, _^_, _≤_}
 use lib.Dec.{eqb}
 use lib.ListN.{getD, List·getD-eq-default}
-use Rattle.alu.specs.Bits.{exor, top}
-use Rattle.alu.specs.Wiring.{complement}
-use Rattle.alu.specs.declared.Ports.{Ports}
+use Rattle.bits.specs.Bits.{exor, top}
+use Rattle.bits.specs.Wiring.{complement}
+use Rattle.bits.specs.declared.Ports.{Ports}
 use Rattle.binding.specs.Binding.{shownBit, shownWord, shownComparison, outputsShow}
 use Rattle.binding.specs.declared.Outputs.{Outputs}
 

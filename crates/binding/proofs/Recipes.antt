@@ -3,9 +3,9 @@ use mathlib.Core.Path.{_≡_, refl, sym, ap, ap₂, _∙_}
 use mathlib.Core.Bool.{Bool, true, false}
 use Prim.Native.Nat.{ℕ, _^_, _<_}
 use Rattle.words.specs.Choice.{if_then_else_}
-use Rattle.alu.specs.Wiring.{wired, carried}
+use Rattle.bits.specs.Wiring.{wired, carried}
 use Rattle.alu.specs.Function.{functionOf, ports}
-use Rattle.alu.specs.declared.Ports.{Ports}
+use Rattle.bits.specs.declared.Ports.{Ports}
 use Rattle.alu.specs.declared.Kind.{Kind}
 use Rattle.alu.proofs.Shown.{ports-lt}
 use Rattle.recipe.specs.Fields.{sourceOf, fromScratch, vectorOf, fieldsOf}

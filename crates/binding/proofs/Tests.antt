@@ -8,7 +8,7 @@ use mathlib.Core.Bool.{Bool, true, false, _&&_, Bool·beq}
 use lib.Dec.{eqb}
 use borrow.Author.Tests.{eqb-true, eq-eqb}
 use Rattle.words.proofs.Choices.{and-split, and-join, beq-true, beq-refl}
-use Rattle.alu.specs.declared.Ports.{Ports}
+use Rattle.bits.specs.declared.Ports.{Ports}
 use Rattle.binding.specs.Right.{RightFor, every, samePorts, agrees, isRightFor}
 use Rattle.binding.specs.declared.Side.{Side}
 use Rattle.binding.specs.declared.Recipe.{Recipe}

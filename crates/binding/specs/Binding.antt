@@ -5,10 +5,10 @@ use mathlib.Core.List.{List, [], _∷_}
 use lib.ListN.{getD}
 use lib.Dec.{eqb}
 use Rattle.words.specs.Choice.{if_then_else_}
-use Rattle.alu.specs.Bits.{exor, top}
-use Rattle.alu.specs.Wiring.{wired, carried, complement, I0, I1, ICIN}
+use Rattle.bits.specs.Bits.{exor, top}
+use Rattle.bits.specs.Wiring.{wired, carried, complement, I0, I1, ICIN}
 use Rattle.alu.specs.Function.{functionOf, ports}
-use Rattle.alu.specs.declared.Ports.{Ports}
+use Rattle.bits.specs.declared.Ports.{Ports}
 use Rattle.alu.specs.declared.Kind.{Kind}
 use Rattle.alu.specs.declared.Kind.the-variants.{Logic}
 use Rattle.recipe.specs.Fields.{fromScratch, vectorOf, fieldsOf}

@@ -5,7 +5,7 @@ use mathlib.Core.Path.{_≡_}
 use mathlib.Core.Bool.{Bool, true, false, _&&_, Bool·beq}
 use lib.Dec.{eqb}
 use Rattle.words.specs.Paper.{sourcePlace}
-use Rattle.alu.specs.declared.Ports.{Ports}
+use Rattle.bits.specs.declared.Ports.{Ports}
 use Rattle.recipe.specs.Fields.{sourceOf}
 use Rattle.binding.specs.Binding.{plain, sideShows, recipeOf, shows}
 use Rattle.binding.specs.declared.Side.{Side}

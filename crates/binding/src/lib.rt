@@ -2,14 +2,14 @@
 mod output;
 
 use alu::Kind;
-use alu::Ports;
+use bits::Ports;
 pub use output::exor;
 use output::outputs_show;
 pub use output::shown_bit;
 pub use output::shown_comparison;
 ghost use mathlib.Core.Path.{_≡_};
 ghost use Prim.Native.Nat.{_^_, _<_};
-ghost use Rattle.alu.specs.Asked as Q;
+ghost use Rattle.bits.specs.Asked as Q;
 ghost use Rattle.binding.specs.Binding as B;
 ghost use Rattle.binding.specs.Right as R;
 
@@ -47,9 +47,9 @@ pub fn plain(function: u32) -> Side
 {
     Side {
         kind: alu::function_of(function),
-        left: alu::I0,
-        right: alu::I1,
-        carry: alu::ICIN,
+        left: bits::I0,
+        right: bits::I1,
+        carry: bits::ICIN,
     }
 }
 
@@ -60,9 +60,9 @@ fn from_vector(vector: u32) -> Recipe
     Recipe {
         target: Side {
             kind: Kind::Logic(vector),
-            left: alu::I0,
-            right: alu::I1,
-            carry: alu::ICIN,
+            left: bits::I0,
+            right: bits::I1,
+            carry: bits::ICIN,
         },
         outputs: Outputs {
             main: 1,
@@ -125,9 +125,9 @@ pub fn side_shows(side: Side, n: u32, left: u64, right: u64, carry: bool) -> Por
     alu::ports_of(
         kind,
         n,
-        alu::wired(n, side.left, left, right),
-        alu::wired(n, side.right, left, right),
-        alu::carried(side.carry, carry),
+        bits::wired(n, side.left, left, right),
+        bits::wired(n, side.right, left, right),
+        bits::carried(side.carry, carry),
     )
 }
 

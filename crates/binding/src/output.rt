@@ -1,11 +1,11 @@
 // What output codes show of a target's ports.
 use crate::Outputs;
-use alu::Ports;
+use bits::Ports;
 ghost use mathlib.Core.Path.{_≡_};
 ghost use mathlib.Core.Bool.{Bool·beq};
 ghost use Prim.Native.Nat.{_^_, _<_};
-ghost use Rattle.alu.specs.Asked as Q;
-ghost use Rattle.alu.specs.Bits as W;
+ghost use Rattle.bits.specs.Asked as Q;
+ghost use Rattle.bits.specs.Bits as W;
 ghost use Rattle.binding.specs.Binding as B;
 
 // A one bit output.
@@ -27,7 +27,7 @@ fn shown_word(n: u32, code: u32, word: u64) -> u64
     if 3 <= code {
         return 0;
     }
-    let words = [0, word, alu::complement(n, word)];
+    let words = [0, word, bits::complement(n, word)];
     words[code as usize]
 }
 
@@ -81,8 +81,8 @@ pub fn outputs_show(outputs: Outputs, n: u32, target: Ports) -> Ports
             outputs.code,
             target.o1,
             to0 != 0,
-            to0 == alu::ones(n),
-            alu::top(n, to0),
+            to0 == bits::ones(n),
+            bits::top(n, to0),
             tovf,
         ),
     }

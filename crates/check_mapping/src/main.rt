@@ -1,7 +1,7 @@
 // Checks a mapping against its job: check_mapping JOB MAPPING, two file names. It prints ACCEPTED, or the refusal.
 use checker::Checked;
-use console::Input;
-use console::KEPT_WORDS;
+use input::Input;
+use input::KEPT_WORDS;
 use libc::STDERR_FILENO;
 use reader::JobRead;
 use words::Refusal;
@@ -10,7 +10,7 @@ ghost use Prim.Native.Nat.{_≤_};
 ghost use lib.ListN.{length};
 ghost use Rattle.reader.specs.Job as J;
 ghost use Rattle.checker.specs.Check as C;
-ghost use Rattle.console.specs.Read as R;
+ghost use Rattle.input.specs.Read as R;
 ghost use Rattle.check_mapping.specs.Files as F;
 
 // A mapping whose last word is cut short: the job's refusals come before it.
@@ -60,7 +60,7 @@ fn read_file(argument: usize, words: &mut [u32]) -> Input
             failed: true,
         };
     }
-    let input = console::read_words(fd, words);
+    let input = input::read_words(fd, words);
     if input.failed {
         os::fail(&path[..length]);
     }

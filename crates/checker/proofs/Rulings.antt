@@ -16,11 +16,11 @@ use Rattle.binding.specs.declared.Claim.{Claim}
 use Rattle.verdict.specs.Verdicts.{Ruling, Gives, Names}
 use Rattle.verdict.specs.declared.Verdict.{Verdict}
 use Rattle.verdict.specs.declared.Verdict.the-variants as verdict
-use Rattle.reader.specs.Limits.{gluePlace}
+use Rattle.reader.specs.Starts.{gluePlace}
 use Rattle.reader.specs.declared.Job.{Job}
 use Rattle.reader.specs.declared.Mapping.{Mapping}
 use Rattle.table.specs.Parts.{sourcesOf, targetsOf, bindingsOf, Terms, termsWith}
-use Rattle.table.specs.Table.{claimIn}
+use Rattle.claims.specs.Claim.{claimIn}
 use Rattle.fitting.specs.Pair.{pairOf}
 use Rattle.fitting.specs.Fitting.{fitOf}
 use Rattle.fitting.specs.declared.Pair.{Pair}
@@ -28,7 +28,8 @@ use Rattle.fitting.specs.declared.Pair.the-variants as pair
 use Rattle.fitting.specs.declared.Fit.{Fit}
 use Rattle.fitting.specs.declared.Fit.the-variants.{Fits, Misfit}
 use Rattle.pricer.specs.Pricing.{glueOf}
-use Rattle.checker.specs.Check.{CheckRuled, firstUnbound, unlessWrong, accountOf, fittingOf, unlessMisfit, judgementOf, ruledOf, rulingOf, Checks}
+use Rattle.checker.specs.Check.{CheckRuled, unlessWrong, accountOf, fittingOf, unlessMisfit, judgementOf, ruledOf, rulingOf, Checks}
+use Rattle.completeness.specs.Complete.{firstUnbound}
 use Rattle.checker.specs.FirstWrong.{SaysOfAll}
 use Rattle.checker.specs.declared.Checked.{Checked}
 use Rattle.checker.specs.declared.Checked.the-variants.{Accepted, JobRefused, MappingRefused, Refused, Wrong}

@@ -1,21 +1,19 @@
 -- Document 01, "Refusals that come from the input": what the checker answers to a job and a mapping.
 use Prim.Native.Nat.{ℕ}
 use mathlib.Core.Path.{_≡_}
-use mathlib.Core.Bool.{Bool, true, false, not}
+use mathlib.Core.Bool.{not}
 use mathlib.Core.List.{List, [], _∷_}
 use lib.Dec.{eqb}
 use lib.ListN.{length}
 use Rattle.words.specs.Choice.{if_then_else_}
-use Rattle.words.specs.Field.{sourceFunction}
 use Rattle.words.specs.Paper.{Paper, refusal, sourcePlace, accepted, told, toldOfJob, toldOfMapping}
 use Rattle.alu.specs.Function.{noFunction}
-use Rattle.recipe.specs.Fields.{sourceOf}
 use Rattle.binding.specs.Right.{isRight}
 use Rattle.verdict.specs.Verdicts.{Differs, wrongPaper, Ruling, Gives, Names}
-use Rattle.reader.specs.Limits.{gluePlace}
+use Rattle.reader.specs.Starts.{gluePlace}
 use Rattle.reader.specs.declared.Mapping.{Mapping}
 use Rattle.table.specs.Parts.{bindingsOf, Terms, termsOf}
-use Rattle.table.specs.Table.{claimIn}
+use Rattle.claims.specs.Claim.{claimIn}
 use Rattle.fitting.specs.Pair.{pairOf}
 use Rattle.fitting.specs.Fitting.{fitOf}
 use Rattle.fitting.specs.declared.Pair.{Pair}
@@ -23,6 +21,7 @@ use Rattle.fitting.specs.declared.Pair.the-variants as pair
 use Rattle.fitting.specs.declared.Fit.{Fit}
 use Rattle.fitting.specs.declared.Fit.the-variants.{Fits, Misfit}
 use Rattle.glue.specs.Glue.{glue}
+use Rattle.completeness.specs.Complete.{firstUnbound}
 use Rattle.checker.specs.declared.Checked.{Checked}
 use Rattle.checker.specs.declared.Checked.the-variants.{Accepted, JobRefused, MappingRefused, Refused, Wrong}
 
@@ -44,17 +43,6 @@ CheckRuled (Names c n) (Refused r) = ⊥
 CheckRuled (Names c n) (Wrong v) = Differs c n v
 
 -- ---- 9, 10 and 11
-
--- a binding has the function as its source
-unfoldable pub binds : List ℕ → ℕ → Bool
-binds [] f = false
-binds (w ∷ ws) f = if eqb (sourceOf w) f then true else binds ws f
-
--- "9. A source without a binding; place: lowest such function." Sources rise, so it is the first; `noFunction` where there is none.
-unfoldable pub firstUnbound : List ℕ → List ℕ → ℕ
-firstUnbound [] bindings = noFunction
-firstUnbound (s ∷ sources) bindings =
-    if not (binds bindings (sourceFunction s)) then sourceFunction s else firstUnbound sources bindings
 
 -- "10. A wrong recipe; place: its function (lowest)." Bindings rise by function, so it is the first that is wrong; where none is, what
 -- comes next.

@@ -8,7 +8,7 @@ use verdict::Verdict;
 use words::Refusal;
 use words::Witness;
 ghost use mathlib.Core.Path.{_≡_};
-ghost use Rattle.alu.specs.Asked as Q;
+ghost use Rattle.bits.specs.Asked as Q;
 ghost use Rattle.table.specs.Parts as T;
 ghost use Rattle.checker.specs.Check as C;
 ghost use Rattle.checker.specs.FirstWrong as W;
@@ -22,35 +22,6 @@ pub enum Checked {
     Wrong(Witness),
 }
 
-// Whether a binding has the function as its source.
-fn binds(bindings: &[u32], function: u32) -> bool
-    ensures { λ r. ⌜ r ≡ C.binds (now (bindings .entry)) function ⌝ }
-{
-    let mut i = 0;
-    while i < bindings.len() {
-        if recipe::source_of(bindings[i]) == function {
-            return true;
-        }
-        i += 1;
-    }
-    false
-}
-
-// The function of the first source without a binding, or NO_FUNCTION.
-fn first_unbound(sources: &[u32], bindings: &[u32]) -> u32
-    ensures { λ r. ⌜ r ≡ C.firstUnbound (now (sources .entry)) (now (bindings .entry)) ⌝ }
-{
-    let mut i = 0;
-    while i < sources.len() {
-        let function = words::source_function(sources[i]);
-        if !binds(bindings, function) {
-            return function;
-        }
-        i += 1;
-    }
-    alu::NO_FUNCTION
-}
-
 // The verdict on the first binding that is wrong, or Right.
 fn first_wrong(job: Job, sources: &[u32], targets: &[u32], bindings: &[u32]) -> Verdict
     requires { ⌜ Q.Width (job .width) ⌝ }
@@ -58,7 +29,7 @@ fn first_wrong(job: Job, sources: &[u32], targets: &[u32], bindings: &[u32]) -> 
 {
     let mut i = 0;
     while i < bindings.len() {
-        let verdict = table::verdict_on(sources, targets, bindings[i], job.width);
+        let verdict = claims::verdict_on(sources, targets, bindings[i], job.width);
         let Verdict::Right = verdict else {
             return verdict;
         };
@@ -98,7 +69,7 @@ fn judge_fitting(
     requires { ⌜ Q.Width (job .width) ⌝ }
     ensures { λ r. ⌜ C.CheckRuled (C.fittingOf (T.termsWith job (now (sources .entry)) (now (targets .entry))) mapping (now (bindings .entry))) r ⌝ }
 {
-    let unbound = first_unbound(sources, bindings);
+    let unbound = completeness::first_unbound(sources, bindings);
     if unbound != alu::NO_FUNCTION {
         return Checked::Refused(Refusal {
             number: 9,

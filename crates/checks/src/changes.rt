@@ -2,22 +2,21 @@
 use crate::compare::Tallies;
 use crate::compare::compared;
 use crate::compare::none;
-use reference::JOB;
-use reference::MAPPING;
-use reference::after;
-use reference::at;
-use reference::count_for;
-use reference::first;
-use reference::glue_word;
-use reference::put;
-use std::num::wrapping_sub_usize;
+use accounts::checking::count_for;
+use std::num::wrapping_add_usize;
+use testing::words::after;
+use testing::words::at;
+use testing::words::first;
+use testing::words::glue_word;
+use testing::words::printed_word;
+use testing::words::put;
 
 // The words of the job; the bits of the job, and of both.
 const MIDDLE: usize = 14;
 
-pub const JOB_BITS: u32 = 448;
+const JOB_BITS: u32 = 448;
 
-pub const BITS: u32 = 640;
+const BITS: u32 = 640;
 
 fn rightly_priced(both: [u32; 20]) -> [u32; 20] {
     let mut words = both;
@@ -27,11 +26,11 @@ fn rightly_priced(both: [u32; 20]) -> [u32; 20] {
 }
 
 // At a width, rightly priced.
-pub fn printed_at(n: u32) -> [u32; 20] {
+fn printed_at(n: u32) -> [u32; 20] {
     let mut words = [0u32; 20];
     let mut i = 0;
     while i < 20 {
-        words[i] = at(&JOB, i) | at(&MAPPING, wrapping_sub_usize(i, MIDDLE));
+        words[i] = printed_word(i);
         i += 1;
     }
     words[0] = 0x1000_0000 | n;
@@ -39,19 +38,19 @@ pub fn printed_at(n: u32) -> [u32; 20] {
     rightly_priced(words)
 }
 
-pub fn with_both(all: Tallies, both: &[u32]) -> Tallies {
+fn with_both(all: Tallies, both: &[u32]) -> Tallies {
     compared(all, first(both, MIDDLE), after(both, MIDDLE))
 }
 
 fn turned(both: [u32; 20], bit: u32) -> [u32; 20] {
     let mut words = both;
-    let place = (bit / 32 % 20) as usize;
-    words[place] = words[place] ^ (1u32 << (bit % 32));
+    let i = (bit / 32 % 20) as usize;
+    words[i] = words[i] ^ (1u32 << (bit % 32));
     words
 }
 
 // Each bit from one on to before another, turned. The bits are counted from the lowest of the first word.
-pub fn with_each_bit(all: Tallies, both: [u32; 20], from: u32, to: u32) -> Tallies {
+fn with_each_bit(all: Tallies, both: [u32; 20], from: u32, to: u32) -> Tallies {
     let mut all = all;
     let mut bit = from;
     while bit < to {
@@ -64,7 +63,7 @@ pub fn with_each_bit(all: Tallies, both: [u32; 20], from: u32, to: u32) -> Talli
 }
 
 // Each of these bits turned, with each bit of the mapping after it.
-pub fn two_bits(n: u32, from: u32, to: u32) -> Tallies {
+fn two_bits(n: u32, from: u32, to: u32) -> Tallies {
     let both = printed_at(n);
     let mut all = none();
     let mut bit = from;
@@ -77,27 +76,31 @@ pub fn two_bits(n: u32, from: u32, to: u32) -> Tallies {
     all
 }
 
+fn with_cut(all: Tallies, both: &[u32], i: usize) -> Tallies {
+    let job = if i < 6 { MIDDLE } else { i - 6 };
+    let mapping = if i < 6 { i } else { 6 };
+    compared(all, first(both, job), first(after(both, MIDDLE), mapping))
+}
+
 // The mapping cut short, to none of its words and more; then the job.
-pub fn cut_short(n: u32) -> Tallies {
+fn cut_short(n: u32) -> Tallies {
     let both = printed_at(n);
     let mut all = none();
     let mut i = 0;
     while i < 20 {
-        let job = if i < 6 { MIDDLE } else { i - 6 };
-        let mapping = if i < 6 { i } else { 6 };
-        let next = compared(all, first(&both, job), first(after(&both, MIDDLE), mapping));
+        let next = with_cut(all, &both, i);
         all = next;
         i += 1;
     }
     all
 }
 
-// The mapping without its binding at a place, from 1 on, rightly priced.
-fn without(both: &[u32], place: usize) -> [u32; 5] {
+// The mapping without its binding at an index, from 1 on, rightly priced.
+fn without(both: &[u32], index: usize) -> [u32; 5] {
     let mapping = after(both, MIDDLE);
-    let second = if place == 1 { 2 } else { 1 };
-    let third = if place < 3 { 3 } else { 2 };
-    let fourth = if place < 4 { 4 } else { 3 };
+    let second = if index == 1 { 2 } else { 1 };
+    let third = if index < 3 { 3 } else { 2 };
+    let fourth = if index < 4 { 4 } else { 3 };
     let mut words = [
         at(mapping, 0),
         at(mapping, second),
@@ -110,37 +113,58 @@ fn without(both: &[u32], place: usize) -> [u32; 5] {
     words
 }
 
-pub fn a_binding_left_out(n: u32) -> Tallies {
+fn with_left_out(all: Tallies, both: &[u32], index: usize) -> Tallies {
+    compared(all, first(both, MIDDLE), &without(both, index))
+}
+
+fn a_binding_left_out(n: u32) -> Tallies {
     let both = printed_at(n);
     let mut all = none();
-    let mut place = 1;
-    while place < 5 {
-        let words = without(&both, place);
-        let next = compared(all, first(&both, MIDDLE), &words);
+    let mut index = 1;
+    while index < 5 {
+        let next = with_left_out(all, &both, index);
         all = next;
-        place += 1;
+        index += 1;
     }
     all
 }
 
-// Each of the six rules of the job bound at each place of the mapping, from 1 on: as it is priced, and rightly priced.
-pub fn a_rule_bound(n: u32) -> Tallies {
+// A rule bound instead of a binding: as the mapping is priced, and rightly priced.
+fn with_rule(all: Tallies, both: [u32; 20], rule: usize, binding: usize) -> Tallies {
+    let word = at(&both, wrapping_add_usize(rule, 8));
+    let mut words = both;
+    let index = wrapping_add_usize(binding, MIDDLE + 1);
+    put(&mut words, index, word % 0x1000_0000 | 0x6000_0000);
+    let priced = rightly_priced(words);
+    with_both(with_both(all, &words), &priced)
+}
+
+// Each of the six rules of the job instead of each of the four bindings.
+fn a_rule_bound(n: u32) -> Tallies {
     let both = printed_at(n);
     let mut all = none();
     let mut i = 0;
     while i < 24 {
-        let mut words = both;
-        let rule = at(&both, i % 6 + 8);
-        put(
-            &mut words,
-            i / 6 + MIDDLE + 1,
-            rule % 0x1000_0000 | 0x6000_0000,
-        );
-        let once = with_both(all, &words);
-        let priced = rightly_priced(words);
-        let next = with_both(once, &priced);
+        let next = with_rule(all, both, i % 6, i / 6);
         all = next;
         i += 1;
     }
     all
+}
+
+pub const NAMES: [u8; 106] = *b"as printed|a bit of the mapping changed|a bit of the job changed\
+    |cut short|a binding left out|a rule bound";
+
+// By the index of its name; then two bits changed: of the mapping, and one of each.
+pub fn group(which: u32, n: u32) -> Tallies {
+    match which {
+        0 => with_both(none(), &printed_at(n)),
+        1 => with_each_bit(none(), printed_at(n), JOB_BITS, BITS),
+        2 => with_each_bit(none(), printed_at(n), 0, JOB_BITS),
+        3 => cut_short(n),
+        4 => a_binding_left_out(n),
+        5 => a_rule_bound(n),
+        6 => two_bits(n, JOB_BITS, BITS),
+        _ => two_bits(n, 0, JOB_BITS),
+    }
 }

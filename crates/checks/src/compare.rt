@@ -1,15 +1,22 @@
 // The checker and the pricer, each beside the reference's.
+use accounts::checking::check;
+use accounts::checking::price;
+use accounts::checking::wrong_is_borne_out;
 use checker::Checked;
 use pricer::Priced;
-use reference::Answer;
-use reference::Numbers;
-use reference::OF_BOTH;
-use reference::OF_JOB;
-use reference::OF_MAPPING;
-use reference::PRICED;
-use reference::answered;
-use reference::no_numbers;
-use reference::say;
+use reference::answer::Answer;
+use reference::answer::OF_BOTH;
+use reference::answer::OF_JOB;
+use reference::answer::OF_MAPPING;
+use reference::answer::PRICED;
+use reference::answer::answered;
+use reference::answer::same_answer;
+use reference::answer::wrong;
+use reference::trial::Witness;
+use testing::say;
+use testing::tally::Numbers;
+use testing::tally::no_numbers;
+use testing::tally::noted;
 
 // Of the checker and of the pricer.
 pub struct Tallies {
@@ -24,20 +31,30 @@ pub fn none() -> Tallies {
     }
 }
 
-fn of_checked(answer: Checked) -> Answer {
+// Whether refusal 10 is borne out: the operands are the checker's choice, so that they are tried.
+fn is_shown(job: &[u32], mapping: &[u32], witness: words::Witness) -> bool {
+    wrong_is_borne_out(
+        job,
+        mapping,
+        Witness {
+            function: witness.function,
+            port: witness.port,
+            left: witness.left,
+            right: witness.right,
+            carry: witness.carry,
+        },
+    )
+}
+
+fn of_checked(answer: Checked, job: &[u32], mapping: &[u32]) -> Answer {
     match answer {
         Checked::Accepted => answered(OF_BOTH, 0, 0),
         Checked::JobRefused(refusal) => answered(OF_JOB, refusal.number, refusal.place),
         Checked::MappingRefused(refusal) => answered(OF_MAPPING, refusal.number, refusal.place),
         Checked::Refused(refusal) => answered(OF_BOTH, refusal.number, refusal.place),
-        Checked::Wrong(witness) => reference::wrong(
-            OF_BOTH,
-            witness.function,
-            witness.port,
-            witness.left,
-            witness.right,
-            witness.carry,
-        ),
+        Checked::Wrong(witness) => {
+            wrong(OF_BOTH, witness.function, is_shown(job, mapping, witness))
+        }
     }
 }
 
@@ -50,6 +67,14 @@ pub fn of_priced(answer: Priced) -> Answer {
     }
 }
 
+fn say_difference(what: &[u8], number: u32, job: &[u32], mapping: &[u32]) {
+    say::text(what);
+    say::count(b" differs, with ", number as u64);
+    say::words(b": job", job);
+    say::words(b", mapping", mapping);
+    say::text(b"\n");
+}
+
 // An answer more. The first difference of a tally is written out.
 fn with(
     what: &[u8],
@@ -60,33 +85,21 @@ fn with(
     mapping: &[u32],
 ) -> Numbers {
     let tally = all.tally;
-    if !same {
-        if tally.differ == 0 {
-            say::text(what);
-            say::count(b" differs, with ", number as u64);
-            say::words(b": job", job);
-            say::words(b", mapping", mapping);
-            say::text(b"\n");
-        }
+    if !same & (tally.differ == 0) {
+        say_difference(what, number, job, mapping);
     }
-    reference::noted(all, number, same)
+    noted(all, number, same)
 }
 
-// The operands of refusal 10 are the checker's choice, so that they are tried.
 fn with_check(all: Numbers, job: &[u32], mapping: &[u32]) -> Numbers {
-    let told = of_checked(checker::check(job, mapping));
-    let witness = told.witness;
-    let same = if told.number == 10 {
-        reference::wrong_is_borne_out(job, mapping, witness)
-    } else {
-        reference::same_answer(told, reference::check(job, mapping))
-    };
+    let told = of_checked(checker::check(job, mapping), job, mapping);
+    let same = (told.number == 10) | same_answer(told, check(job, mapping));
     with(b"check", all, told.number, same, job, mapping)
 }
 
 fn with_price(all: Numbers, job: &[u32], mapping: &[u32]) -> Numbers {
     let told = of_priced(pricer::price(job, mapping));
-    let same = reference::same_answer(told, reference::price(job, mapping));
+    let same = same_answer(told, price(job, mapping));
     with(b"price", all, told.number, same, job, mapping)
 }
 
@@ -100,23 +113,22 @@ pub fn compared(all: Tallies, job: &[u32], mapping: &[u32]) -> Tallies {
     }
 }
 
-fn report_one(all: Numbers, what: &[u8]) {
-    let tally = all.tally;
-    let by = all.by;
-    say::compared(b": ", tally);
-    say::text(b"; ");
-    say::text(what);
-    say::count(b": ", by[0]);
+// How many had each number that some had.
+fn say_refused(by: [u64; 12]) {
     let mut number = 1;
     while number < 12 {
-        let count = by[number];
-        if count != 0 {
-            say::count(b", refused ", number as u64);
-            say::count(b": ", count);
+        if by[number] != 0 {
+            say::line(b", refused #: #", &[number as u64, by[number]]);
         }
         number += 1;
     }
-    say::text(b"\n");
+}
+
+fn report_one(form: &[u8], all: Numbers) {
+    let tally = all.tally;
+    let by = all.by;
+    say::line(form, &[tally.compared, tally.differ, by[0]]);
+    say_refused(by);
 }
 
 // Two lines for a group at a width.
@@ -126,7 +138,7 @@ pub fn report(name: &[u8], n: u32, all: Tallies) {
     say::count(b"width ", n as u64);
     say::text(b", ");
     say::text(name);
-    report_one(checks, b"accepted");
-    say::text(b"    price");
-    report_one(prices, b"counted");
+    report_one(b": # compared, # differ; accepted: #", checks);
+    report_one(b"\n    price: # compared, # differ; counted: #", prices);
+    say::text(b"\n");
 }

@@ -6,49 +6,52 @@ mod changes;
 mod compare;
 mod random;
 
-use changes::BITS;
-use changes::JOB_BITS;
-use changes::printed_at;
-use changes::two_bits;
-use changes::with_both;
-use changes::with_each_bit;
-use compare::none;
 use compare::report;
-use random::random_files;
-use reference::say;
+use testing::names::name_at;
+use testing::say;
+use testing::words::JOB;
+use testing::words::MAPPING;
 
-fn report_width(n: u32) {
-    let both = printed_at(n);
-    report(b"as printed", n, with_both(none(), &both));
-    let of_mapping = with_each_bit(none(), both, JOB_BITS, BITS);
-    report(b"a bit of the mapping changed", n, of_mapping);
-    let of_job = with_each_bit(none(), both, 0, JOB_BITS);
-    report(b"a bit of the job changed", n, of_job);
-    report(b"cut short", n, changes::cut_short(n));
-    report(b"a binding left out", n, changes::a_binding_left_out(n));
-    report(b"a rule bound", n, changes::a_rule_bound(n));
+// At each width first one change after another, then random files.
+const WIDTHS: [u32; 4] = [16, 1, 2, 3];
+
+const RANDOM_WIDTHS: [u32; 5] = [1, 2, 3, 16, 64];
+
+const RANDOM_FILES: [u64; 5] = [4000, 4000, 4000, 2000, 1000];
+
+fn report_change(which: u32, n: u32) {
+    let name = name_at(&changes::NAMES, which as usize);
+    report(name, n, changes::group(which, n));
 }
 
-fn report_two(n: u32) {
-    let of_mapping = two_bits(n, JOB_BITS, BITS);
-    report(b"two bits of the mapping changed", n, of_mapping);
-    report(b"a bit of each changed", n, two_bits(n, 0, JOB_BITS));
+fn report_one_change() {
+    let mut i: u32 = 0;
+    while i < 24 {
+        report_change(i % 6, WIDTHS[(i / 6) as usize]);
+        i += 1;
+    }
+}
+
+fn report_two_changes(n: u32) {
+    report(b"two bits of the mapping changed", n, changes::group(6, n));
+    report(b"a bit of each changed", n, changes::group(7, n));
+}
+
+fn report_random() {
+    let mut i = 0;
+    while i < 5 {
+        let n = RANDOM_WIDTHS[i];
+        report(b"random files", n, random::random_files(n, RANDOM_FILES[i]));
+        i += 1;
+    }
 }
 
 fn main() {
     // Document 01 prints a count of 148.
-    let priced = compare::of_priced(pricer::price(&reference::JOB, &reference::MAPPING));
-    say::count(b"the printed mapping: price ", priced.place as u64);
-    say::text(b"\n");
-    report_width(16);
-    report_width(1);
-    report_width(2);
-    report_width(3);
-    report_two(2);
-    report_two(16);
-    report(b"random files", 1, random_files(1, 4000));
-    report(b"random files", 2, random_files(2, 4000));
-    report(b"random files", 3, random_files(3, 4000));
-    report(b"random files", 16, random_files(16, 2000));
-    report(b"random files", 64, random_files(64, 1000));
+    let priced = compare::of_priced(pricer::price(&JOB, &MAPPING));
+    say::line(b"the printed mapping: price #\n", &[priced.place as u64]);
+    report_one_change();
+    report_two_changes(2);
+    report_two_changes(16);
+    report_random();
 }

@@ -3,11 +3,11 @@
 use crate::compare::Tallies;
 use crate::compare::compared;
 use crate::compare::none;
-use reference::count_for;
-use reference::first;
-use reference::glue_word;
-use reference::next;
-use reference::word_of;
+use accounts::checking::count_for;
+use reference::trial::next;
+use testing::words::first;
+use testing::words::glue_word;
+use testing::words::word_of;
 
 // The vectors of the logic functions, from 6 on.
 const VECTORS: [u32; 16] = [0, 15, 1, 14, 7, 8, 6, 9, 3, 5, 12, 10, 4, 2, 13, 11];
@@ -108,7 +108,7 @@ fn mapping_of(job: &[u32], n: u32, random: u64) -> File {
     let file = with_table(begun(width), 6, random);
     let words = file.words;
     let size = file.size;
-    // The glue count's place is counted in, as the last word.
+    // The glue count's word is counted in, as the last.
     let count = count_for(job, first(&words, std::num::wrapping_add_usize(size, 1)));
     let other = if seldom(random, 512, 6) {
         1 + random % 8

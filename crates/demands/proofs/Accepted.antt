@@ -10,10 +10,11 @@ use Rattle.binding.specs.Right.{isRight}
 use Rattle.binding.specs.declared.Claim.{Claim}
 use Rattle.binding.proofs.Tests.{right-test}
 use Rattle.reader.specs.Job.{WellFormedJob}
-use Rattle.reader.specs.Limits.{bindingsStart}
+use Rattle.reader.specs.Starts.{bindingsStart}
 use Rattle.reader.specs.declared.Job.{Job}
 use Rattle.table.specs.Parts.{sourcesOf, targetsOf, bindingsOf, termsOf}
-use Rattle.table.specs.Table.{listsSource, inJob, claimIn}
+use Rattle.table.specs.Table.{listsSource, inJob}
+use Rattle.claims.specs.Claim.{claimIn}
 use Rattle.table.proofs.Entries as entries
 use Rattle.fitting.specs.Fitting.{fitOf}
 use Rattle.fitting.specs.declared.Fit.the-variants.{Fits}

@@ -13,7 +13,7 @@ use Rattle.words.proofs.Choices.{either}
 use Rattle.binding.specs.Right.{isRight}
 use Rattle.binding.specs.declared.Claim.{Claim}
 use Rattle.verdict.specs.Verdicts.{Ruling, Gives}
-use Rattle.reader.specs.Limits.{mostSources}
+use Rattle.sequence.specs.Limits.{mostSources}
 use Rattle.soundness.specs.Sound.{ruleFault}
 use Rattle.soundness.proofs.Soundness.{sound-sources}
 use Rattle.bench.specs.Calls.{soundBench, holding, gives, inTables, entryFor, boundAt, isTaken, bindFault, claimOn, bindOf, WrongAt, BindRuled, Binds, paperOf}

@@ -13,18 +13,19 @@ use Rattle.words.specs.Field.{kindOf, sourceFunction}
 use Rattle.words.specs.Paper.{accepted}
 use Rattle.recipe.specs.Fields.{sourceOf}
 use Rattle.verdict.specs.Verdicts.{Ruling}
-use Rattle.reader.specs.Limits.{mostSources}
+use Rattle.sequence.specs.Limits.{mostSources}
 use Rattle.reader.specs.Job.{WellFormedJob}
 use Rattle.reader.specs.declared.Job.{Job}
 use Rattle.wellformed.proofs.JobWords.{JobFacts, well-formed}
 use Rattle.table.specs.Parts.{sourcesOf}
 use Rattle.table.specs.Table.{listsSource, hasTarget}
 use Rattle.table.proofs.Entries.{in-job-when}
-use Rattle.mapper.specs.Choose.{Mapped}
+use Rattle.choice.specs.Choose.{Mapped}
 use Rattle.mapper.specs.Mapping.{choiceOf}
 use Rattle.soundness.specs.Sound.{sourcesOn, targetsOn, ruleFault}
 use Rattle.soundness.proofs.Soundness.{a-rule}
-use Rattle.bench.specs.Calls.{soundBench, holding, gives, tableOf, tablesIn, opened, entryOf, entryFor, boundAt, BindRuled}
+use Rattle.bench.specs.Calls.{soundBench, holding, gives, tableOf, tablesIn, opened, entryFor, boundAt, BindRuled}
+use Rattle.entries.specs.Entries.{entryOf}
 use Rattle.bench.specs.declared.Bench.{Bench}
 use Rattle.bench.specs.declared.Answer.the-variants.{Done}
 use Rattle.bench.specs.declared.After.{After}

@@ -6,7 +6,7 @@ use Prim.Native.Nat.{ℕ, _-_, _≤_, _<_}
 use native.Mathlib.Omega.{arith}
 use lib.ListN.{length, getD, replicate, length-append, length-replicate, length-set}
 use Rattle.words.specs.Field.{sourceFunction}
-use Rattle.reader.specs.Limits.{mostSources, mostTargets}
+use Rattle.sequence.specs.Limits.{mostSources, mostTargets}
 use Rattle.reader.specs.Job.{WellFormedJob}
 use Rattle.reader.specs.declared.Job.{Job}
 use Rattle.reader.specs.declared.JobRead.{JobRead}

@@ -11,7 +11,7 @@ use Rattle.words.specs.Field.{contentOf, sourceFunction}
 use Rattle.words.specs.Paper.{refusal, sourcePlace, refusedWith}
 use Rattle.words.specs.declared.Witness.{Witness}
 use Rattle.words.proofs.Choices.{either, false-of}
-use Rattle.alu.specs.Bits.{num}
+use Rattle.bits.specs.Bits.{num}
 use Rattle.alu.specs.Function.{noFunction}
 use Rattle.recipe.specs.Fields.{sourceOf}
 use Rattle.binding.specs.Right.{Right, isRight}
@@ -19,20 +19,21 @@ use Rattle.binding.specs.declared.Claim.{Claim}
 use Rattle.binding.proofs.Tests.{right-test}
 use Rattle.verdict.specs.Verdicts.{Differs, Ruling, Gives, Names}
 use Rattle.reader.specs.Job.{jobOf, WellFormedJob}
-use Rattle.reader.specs.Limits.{sourcesStart, bindingsStart}
+use Rattle.reader.specs.Starts.{sourcesStart, bindingsStart}
 use Rattle.reader.specs.Mapping.{mappingOf, WellFormedMapping}
 use Rattle.reader.specs.declared.Job.{Job}
 use Rattle.reader.specs.declared.Mapping.{Mapping}
 use Rattle.wellformed.proofs.JobWords as jobs
 use Rattle.wellformed.proofs.MappingWords as mappings
 use Rattle.table.specs.Parts.{sourcesOf, bindingsOf, Terms, termsOf}
-use Rattle.table.specs.Table.{claimIn}
+use Rattle.claims.specs.Claim.{claimIn}
 use Rattle.fitting.specs.Fitting.{fitOf}
 use Rattle.fitting.specs.declared.Fit.{Fit}
 use Rattle.fitting.specs.declared.Fit.the-variants.{Fits, Misfit}
 use Rattle.fitting.proofs.Pairs.{both-read}
 use Rattle.pricer.specs.Pricing.{glueOf}
-use Rattle.checker.specs.Check.{paperOf, CheckRuled, binds, firstUnbound, unlessWrong, accountOf, fittingOf, unlessMisfit, judgementOf, ruledOf, rulingOf, Checks}
+use Rattle.checker.specs.Check.{paperOf, CheckRuled, unlessWrong, accountOf, fittingOf, unlessMisfit, judgementOf, ruledOf, rulingOf, Checks}
+use Rattle.completeness.specs.Complete.{binds, firstUnbound}
 use Rattle.checker.specs.declared.Checked.{Checked}
 use Rattle.checker.specs.declared.Checked.the-variants.{Accepted, JobRefused, MappingRefused, Refused, Wrong}
 use Rattle.demands.specs.Mapped.{sourceAt, bindingAt, claimAt, Bound, Complete, RightAt, AllRight, RightlyMapped, NamesUnbound, NamesWrong}

@@ -15,8 +15,9 @@ use Rattle.words.specs.Field.{sourceFunction}
 use Rattle.words.specs.Paper.{sourcePlace}
 use Rattle.words.proofs.Choices.{either}
 use Rattle.table.specs.Parts.{Terms}
-use Rattle.mapper.specs.Choose.{serves, noRule, beats, better, bestOf, Mapped, Unmappable, withRule, choose}
-use Rattle.mapper.specs.declared.choose.Best.{Best}
+use Rattle.best.specs.Best.{serves, noRule, beats, better, bestOf}
+use Rattle.choice.specs.Choose.{Mapped, Unmappable, withRule, choose}
+use Rattle.best.specs.declared.Best.{Best}
 use Rattle.demands.specs.Choice.{Served, Least}
 
 -- ---- one rule

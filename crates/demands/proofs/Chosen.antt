@@ -14,13 +14,15 @@ use Rattle.words.proofs.Choices.{and-split}
 use Rattle.recipe.specs.Fields.{sourceOf}
 use Rattle.binding.specs.Right.{isRight}
 use Rattle.reader.specs.Job.{WellFormedJob}
-use Rattle.reader.specs.Limits.{rulesStart}
+use Rattle.reader.specs.Starts.{rulesStart}
 use Rattle.reader.specs.declared.Job.{Job}
 use Rattle.wellformed.proofs.Parts.{RecipeWord}
 use Rattle.wellformed.proofs.JobWords.{JobFacts, well-formed}
 use Rattle.table.specs.Parts.{sourcesOf, targetsOf, rulesOf, termsOf}
-use Rattle.table.specs.Table.{hasTarget, claimIn}
-use Rattle.mapper.specs.Choose.{serves, usable, Mapped}
+use Rattle.table.specs.Table.{hasTarget}
+use Rattle.claims.specs.Claim.{claimIn}
+use Rattle.best.specs.Best.{serves, usable}
+use Rattle.choice.specs.Choose.{Mapped}
 use Rattle.mapper.specs.Mapping.{choiceOf}
 use Rattle.mapper.proofs.Answering.{sources-length}
 use Rattle.demands.specs.Mapped.{sourceAt}

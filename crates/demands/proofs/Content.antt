@@ -12,11 +12,13 @@ use Rattle.words.specs.Paper.{sourcePlace}
 use Rattle.words.specs.declared.Prices.{Prices}
 use Rattle.words.proofs.Fields.{field-lt}
 use Rattle.recipe.specs.Fields.{sourceOf}
-use Rattle.recipe.specs.Layout.{recipeFault}
-use Rattle.recipe.proofs.Content.{same-source, same-target, same-from-scratch, same-vector, same-fields, same-fault}
+use Rattle.layout.specs.Layout.{recipeFault}
+use Rattle.recipe.proofs.Content.{same-source, same-target, same-from-scratch, same-vector, same-fields}
+use Rattle.layout.proofs.Content.{same-fault}
 use Rattle.binding.specs.Binding.{plain, fromVector, fromTarget, recipeOf}
 use Rattle.wellformed.proofs.Parts.{kind-of-laid, content-of-laid}
-use Rattle.table.specs.Table.{listsTarget, hasTarget, claimIn}
+use Rattle.table.specs.Table.{listsTarget, hasTarget}
+use Rattle.claims.specs.Claim.{claimIn}
 use Rattle.usage.specs.Sets.{usage}
 use Rattle.usage.proofs.Joining.{usage-content}
 use Rattle.glue.specs.Glue.{glue}

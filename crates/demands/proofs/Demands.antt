@@ -13,7 +13,7 @@ use Rattle.verdict.specs.Verdicts.{Says, verdictPaper, Ruling}
 use Rattle.verdict.specs.declared.Verdict.{Verdict}
 use Rattle.verdict.specs.declared.Verdict.the-variants.{Right as IsRight, Wrong}
 use Rattle.verdict.proofs.Verdicting.{not-right}
-use Rattle.reader.specs.Limits.{mostSources}
+use Rattle.sequence.specs.Limits.{mostSources}
 use Rattle.reader.specs.Job.{WellFormedJob}
 use Rattle.reader.specs.Mapping.{mappingOf}
 use Rattle.reader.specs.Mapping as reader
@@ -23,7 +23,7 @@ use Rattle.wellformed.proofs.Numbers.{job-number}
 use Rattle.table.specs.Parts.{sourcesOf, rulesOf, bindingsOf, termsOf}
 use Rattle.pricer.specs.Pricing.{glueOf}
 use Rattle.writer.specs.Write.{bindingWords, wordsNeeded}
-use Rattle.mapper.specs.Choose.{Choice, Mapped, Unmappable}
+use Rattle.choice.specs.Choose.{Choice, Mapped, Unmappable}
 use Rattle.mapper.specs.Mapping.{choiceOf, chosenWords, answerOf, lentAfterMap}
 use Rattle.mapper.specs.Mapping as mapper
 use Rattle.mapper.proofs.Answering.{sources-length}

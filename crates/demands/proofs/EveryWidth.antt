@@ -17,7 +17,7 @@ use Rattle.binding.specs.declared.Recipe.{Recipe}
 use Rattle.automaton.specs.Machine.{first, next, alike, last, lowBit, agreesFrom}
 use Rattle.automaton.specs.declared.State.{State}
 use Rattle.automaton.proofs.Runs.{decided}
-use Rattle.equivalence.specs.Search.{indexOf, stateOf}
+use Rattle.equivalence.specs.Sets.{indexOf, stateOf}
 use Rattle.equivalence.proofs.States.{state-index}
 
 abbrev pub mem : ℕ → List ℕ → Bool

@@ -13,14 +13,16 @@ use Rattle.words.specs.Field.{kindOf, sourceFunction}
 use Rattle.words.specs.Kinds.{RULE}
 use Rattle.words.proofs.Choices.{either}
 use Rattle.recipe.specs.Fields.{sourceOf}
-use Rattle.recipe.specs.Layout.{recipeFault}
+use Rattle.layout.specs.Layout.{recipeFault}
 use Rattle.binding.specs.Right.{isRight}
-use Rattle.table.specs.Table.{hasTarget, claimIn}
+use Rattle.table.specs.Table.{hasTarget}
+use Rattle.claims.specs.Claim.{claimIn}
 use Rattle.writer.specs.Write.{wordsNeeded, writtenOf}
 use Rattle.writer.proofs.Writing.{mapping-length, written-words}
 use Rattle.soundness.specs.Sound.{sourcesOn, targetsOn, filled, ruleFault, bindable, entrySound, boundSound}
 use Rattle.soundness.proofs.Soundness.{sound-holds, sound-sources}
-use Rattle.bench.specs.Calls.{soundBench, bindingsOn, gives, glueOn, firstEmpty, unboundOn, mappingOn, finishOf, lentAfterFinish}
+use Rattle.bench.specs.Calls.{soundBench, bindingsOn, gives, glueOn, unboundOn, mappingOn, finishOf, lentAfterFinish}
+use Rattle.entries.specs.Entries.{firstEmpty}
 use Rattle.bench.specs.Shape.{Shaped}
 use Rattle.bench.specs.declared.Bench.{Bench}
 use Rattle.bench.specs.declared.Answer.the-variants.{Mapping}

@@ -10,7 +10,7 @@ use lib.ListN.{length, getD, List·getD-append}
 use borrow.Author.Tests.{eq-eqb, eqb-true, ltb-true}
 use Rattle.words.specs.Choice.{if_then_else_}
 use Rattle.words.specs.Paper.{refusal, refused}
-use Rattle.reader.specs.Limits.{mostSources}
+use Rattle.sequence.specs.Limits.{mostSources}
 use Rattle.reader.specs.Job.{WellFormedJob}
 use Rattle.reader.specs.declared.Job.{Job}
 use Rattle.wellformed.proofs.JobWords.{well-formed}
@@ -18,7 +18,7 @@ use Rattle.writer.specs.Write.{wordsNeeded, writtenOf, lentAfter}
 use Rattle.writer.specs.declared.Written.{Written}
 use Rattle.writer.specs.declared.Written.the-variants.{Words, Refused as TooFew}
 use Rattle.writer.proofs.Writing.{mapping-length, untouched}
-use Rattle.mapper.specs.Choose.{Mapped}
+use Rattle.choice.specs.Choose.{Mapped}
 use Rattle.mapper.specs.Mapping.{choiceOf, chosenWords, answerOf}
 use Rattle.mapper.specs.Mapping as mapper
 use Rattle.soundness.specs.Sound.{sourcesOn}

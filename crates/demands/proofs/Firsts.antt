@@ -15,8 +15,9 @@ use Rattle.recipe.specs.Fields.{sourceOf}
 use Rattle.binding.specs.Right.{isRight}
 use Rattle.verdict.specs.Verdicts.{Ruling, Names}
 use Rattle.table.specs.Parts.{Terms}
-use Rattle.table.specs.Table.{claimIn}
-use Rattle.checker.specs.Check.{CheckRuled, binds, firstUnbound, unlessWrong}
+use Rattle.claims.specs.Claim.{claimIn}
+use Rattle.checker.specs.Check.{CheckRuled, unlessWrong}
+use Rattle.completeness.specs.Complete.{binds, firstUnbound}
 use Rattle.checker.specs.declared.Checked.{Checked}
 use Rattle.checker.specs.declared.Checked.the-variants.{Accepted}
 

@@ -13,11 +13,13 @@ use Rattle.words.proofs.Choices.{either}
 use Rattle.recipe.specs.Fields.{sourceOf}
 use Rattle.binding.specs.Right.{isRight}
 use Rattle.verdict.specs.Verdicts.{Ruling}
-use Rattle.table.specs.Table.{listsSource, hasTarget, claimIn}
+use Rattle.table.specs.Table.{listsSource, hasTarget}
+use Rattle.claims.specs.Claim.{claimIn}
 use Rattle.table.proofs.Entries.{in-job-parts}
 use Rattle.soundness.specs.Sound.{sourcesOn, targetsOn, ruleFault, bindable, entrySound, boundSound}
 use Rattle.soundness.proofs.Soundness.{sound-holds, sound-when}
-use Rattle.bench.specs.Calls.{soundBench, entryOf, entryFor, boundAt, bindFault, claimOn, bindOf, BindRuled, Binds}
+use Rattle.bench.specs.Calls.{soundBench, entryFor, boundAt, bindFault, claimOn, bindOf, BindRuled, Binds}
+use Rattle.entries.specs.Entries.{entryOf}
 use Rattle.bench.specs.declared.Bench.{Bench}
 use Rattle.bench.specs.declared.After.{After}
 use Rattle.bench.proofs.Binds.{Checked, checked}

@@ -10,8 +10,9 @@ use borrow.Author.Tests.{eq-eqb}
 use Rattle.words.specs.Field.{contentOf}
 use Rattle.words.specs.Kinds.{SOURCE, TARGET}
 use Rattle.words.proofs.Choices.{and-join}
-use Rattle.alu.specs.Evaluate.{isWidth}
-use Rattle.reader.specs.Limits.{mostSources, mostTargets, sourcesStart, targetsStart}
+use Rattle.alu.specs.Range.{isWidth}
+use Rattle.sequence.specs.Limits.{mostSources, mostTargets}
+use Rattle.reader.specs.Starts.{sourcesStart, targetsStart}
 use Rattle.reader.specs.Job.{jobOf, WellFormedJob}
 use Rattle.reader.specs.declared.Job.{Job}
 use Rattle.reader.specs.declared.JobRead.{JobRead}

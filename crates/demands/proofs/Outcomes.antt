@@ -15,7 +15,7 @@ use Rattle.reader.specs.declared.JobRead.the-variants as job-read
 use Rattle.pricer.specs.Pricing.{glueOf}
 use Rattle.writer.specs.Write.{wordsNeeded, writtenOf}
 use Rattle.writer.proofs.Writing.{mapping-length, written-words, untouched}
-use Rattle.mapper.specs.Choose.{Choice, Mapped, Unmappable}
+use Rattle.choice.specs.Choose.{Choice, Mapped, Unmappable}
 use Rattle.mapper.specs.Mapping.{choiceOf, chosenWords, answerOf, lentAfterMap, paperOf}
 use Rattle.demands.proofs.Chosen.{one-each}
 

@@ -10,7 +10,7 @@ use Rattle.words.specs.declared.Refusal.{Refusal}
 use Rattle.words.proofs.Choices.{either}
 use Rattle.alu.specs.Function.{noFunction}
 use Rattle.verdict.specs.Verdicts.{Ruling, Gives}
-use Rattle.reader.specs.Limits.{bindingsStart}
+use Rattle.reader.specs.Starts.{bindingsStart}
 use Rattle.reader.specs.declared.Mapping.{Mapping}
 use Rattle.table.specs.Parts.{bindingsOf, Terms, termsOf}
 use Rattle.table.specs.Table.{inJob}
@@ -20,7 +20,8 @@ use Rattle.fitting.specs.declared.Pair.{Pair}
 use Rattle.fitting.specs.declared.Pair.the-variants as pair
 use Rattle.fitting.specs.declared.Fit.{Fit}
 use Rattle.glue.specs.Glue.{glue}
-use Rattle.checker.specs.Check.{paperOf, CheckRuled, firstUnbound, accountOf, fittingOf, unlessMisfit, judgementOf, ruledOf, rulingOf, Checks}
+use Rattle.checker.specs.Check.{paperOf, CheckRuled, accountOf, fittingOf, unlessMisfit, judgementOf, ruledOf, rulingOf, Checks}
+use Rattle.completeness.specs.Complete.{firstUnbound}
 use Rattle.checker.specs.declared.Checked.{Checked}
 use Rattle.checker.specs.declared.Checked.the-variants.{Accepted, JobRefused, MappingRefused, Refused, Wrong}
 use Rattle.checker.proofs.Rulings.{right-or-named}

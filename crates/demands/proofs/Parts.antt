@@ -8,7 +8,7 @@ use native.Mathlib.Omega.{arith}
 use lib.ListN.{length, take, drop, getD, length-drop}
 use lib.Seq.{length-take-le, getD-take, getD-drop}
 use Rattle.words.specs.Field.{sourceFunction}
-use Rattle.reader.specs.Limits.{sourcesStart}
+use Rattle.reader.specs.Starts.{sourcesStart}
 use Rattle.reader.specs.declared.Job.{Job}
 use Rattle.wellformed.proofs.Parts.{Rising, rising-far}
 use Rattle.table.specs.Parts.{sourcesOf}

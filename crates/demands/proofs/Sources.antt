@@ -8,11 +8,11 @@ use lib.ListN.{getD}
 use Rattle.words.specs.Field.{contentOf, sourceFunction}
 use Rattle.words.specs.Paper.{sourcePlace}
 use Rattle.reader.specs.Job.{WellFormedJob}
-use Rattle.reader.specs.Limits.{sourcesStart}
+use Rattle.reader.specs.Starts.{sourcesStart}
 use Rattle.reader.specs.declared.Job.{Job}
 use Rattle.wellformed.proofs.JobWords.{well-formed}
 use Rattle.table.specs.Parts.{sourcesOf, rulesOf, termsOf}
-use Rattle.mapper.specs.Choose.{Unmappable}
+use Rattle.choice.specs.Choose.{Unmappable}
 use Rattle.mapper.specs.Mapping.{choiceOf}
 use Rattle.mapper.proofs.Answering.{sources-length}
 use Rattle.demands.specs.Mapped.{sourceAt}

@@ -5,8 +5,11 @@ use mathlib.Core.Bool.{Bool, true, false, not, _&&_}
 use mathlib.Core.List.{List, [], _∷_}
 use Prim.Native.Nat.{ℕ, _<_}
 use Rattle.words.proofs.Choices.{and-join}
-use Rattle.alu.specs.Bits.{bit, top, word}
-use Rattle.alu.specs.Function.{value, overflows, sum, below, ports}
+use Rattle.bits.specs.Bits.{bit, top, word}
+use Rattle.bits.specs.Bits.{value}
+use Rattle.bits.specs.Sum.{overflows, sum}
+use Rattle.bits.specs.Order.{below}
+use Rattle.alu.specs.Function.{ports}
 use Rattle.alu.proofs.Starred as functions
 use Rattle.recipe.specs.Fields.{sourceOf}
 use Rattle.binding.specs.Binding.{plain, recipeOf, sideShows, outputsShow}

@@ -9,7 +9,7 @@ use lib.Seq.{take-append-seam}
 use Rattle.words.specs.Field.{wordOf}
 use Rattle.words.specs.Kinds.{GLUE, BINDING}
 use Rattle.recipe.specs.Fields.{sourceOf}
-use Rattle.recipe.specs.Layout.{recipeFault}
+use Rattle.layout.specs.Layout.{recipeFault}
 use Rattle.binding.specs.Right.{isRight}
 use Rattle.reader.specs.Job.{WellFormedJob}
 use Rattle.reader.specs.Mapping.{WellFormedMapping}
@@ -20,7 +20,8 @@ use Rattle.wellformed.proofs.JobWords.{JobFacts, well-formed}
 use Rattle.wellformed.proofs.MappingWords.{MappingFacts}
 use Rattle.wellformed.proofs.MappingAccepting.{accepts, laid-well-formed}
 use Rattle.table.specs.Parts.{sourcesOf, targetsOf, bindingsOf}
-use Rattle.table.specs.Table.{hasTarget, claimIn}
+use Rattle.table.specs.Table.{hasTarget}
+use Rattle.claims.specs.Claim.{claimIn}
 use Rattle.glue.proofs.Bounds.{glue-fits}
 use Rattle.pricer.specs.Pricing.{glueOf}
 use Rattle.writer.specs.Write.{bindingWord, bindingWords}

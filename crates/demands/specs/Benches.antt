@@ -5,7 +5,7 @@ use mathlib.Core.Bool.{true}
 use mathlib.Core.List.{List, [], _∷_, _++_}
 use lib.ListN.{length, drop}
 use Rattle.words.specs.Paper.{accepted}
-use Rattle.reader.specs.Limits.{mostSources}
+use Rattle.sequence.specs.Limits.{mostSources}
 use Rattle.reader.specs.declared.Job.{Job}
 use Rattle.writer.specs.Write.{wordsNeeded}
 use Rattle.checker.specs.Check.{Checks}

@@ -11,7 +11,8 @@ use Rattle.reader.specs.Job.{WellFormedJob}
 use Rattle.reader.specs.declared.Job.{Job}
 use Rattle.table.specs.Parts.{rulesOf, Terms, termsOf}
 use Rattle.writer.specs.Write.{wordsNeeded}
-use Rattle.mapper.specs.Choose.{serves, Mapped, withRule}
+use Rattle.best.specs.Best.{serves}
+use Rattle.choice.specs.Choose.{Mapped, withRule}
 use Rattle.mapper.specs.Mapping.{choiceOf, chosenWords, answerOf, lentAfterMap, paperOf}
 use Rattle.demands.specs.Mapped.{sourceAt}
 

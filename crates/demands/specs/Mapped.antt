@@ -8,18 +8,18 @@ use lib.ListN.{getD}
 use Rattle.words.specs.Field.{sourceFunction}
 use Rattle.words.specs.Paper.{sourcePlace, refused, refusedWith}
 use Rattle.words.specs.declared.Witness.{Witness}
-use Rattle.alu.specs.Bits.{num}
+use Rattle.bits.specs.Bits.{num}
 use Rattle.recipe.specs.Fields.{sourceOf}
 use Rattle.binding.specs.Right.{Right}
 use Rattle.binding.specs.declared.Claim.{Claim}
 use Rattle.verdict.specs.Verdicts.{Differs}
 use Rattle.reader.specs.Job.{WellFormedJob}
-use Rattle.reader.specs.Limits.{sourcesStart, bindingPlace}
+use Rattle.reader.specs.Starts.{sourcesStart, bindingPlace}
 use Rattle.reader.specs.Mapping.{WellFormedMapping}
 use Rattle.reader.specs.declared.Job.{Job}
 use Rattle.reader.specs.declared.Mapping.{Mapping}
 use Rattle.table.specs.Parts.{bindingsOf, Terms, termsOf}
-use Rattle.table.specs.Table.{claimIn}
+use Rattle.claims.specs.Claim.{claimIn}
 use Rattle.fitting.specs.Fitting.{fitOf}
 use Rattle.fitting.specs.declared.Fit.the-variants.{Fits}
 use Rattle.pricer.specs.Pricing.{glueOf}

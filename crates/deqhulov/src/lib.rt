@@ -1,11 +1,12 @@
 // The interface for programs in other languages: a job is mapped, a mapping is checked, a recipe is judged. Words and lent words pass
 // as a pointer and a length. Each call returns the number of document 01's refusal, 0 for none, stores its place, and puts the
 // values that come with the answer into lent words.
-mod paper;
+mod answers;
 
 ghost use mathlib.Core.Path.{_≡_};
 ghost use Rattle.mapper.specs.Mapping as M;
-ghost use Rattle.deqhulov.specs.Told as D;
+ghost use Rattle.report.specs.Told as R;
+ghost use Rattle.deqhulov.specs.Tells as D;
 
 // Maps a job into lent words. The value is the number of words written.
 #[no_mangle]
@@ -15,12 +16,12 @@ pub extern "C" fn deqhulov_map(
     place: &mut u64,
     values: &mut [u64],
 ) -> u32
-    ensures told { λ r. ⌜ D.Told (M.paperOf (M.answerOf (now (job .entry)) (now (lent .entry)))) r (now (place .exit)) (now (values .entry)) (now (values .exit)) ⌝ }
+    ensures told { λ r. ⌜ R.Told (M.paperOf (M.answerOf (now (job .entry)) (now (lent .entry)))) r (now (place .exit)) (now (values .entry)) (now (values .exit)) ⌝ }
     ensures written { λ r. ⌜ now (lent .exit) ≡ M.lentAfterMap (now (job .entry)) (now (lent .entry)) ⌝ }
 {
     let answer = mapper::map(job, lent);
-    let report = paper::of_mapping(answer);
-    paper::tell(report, place, values)
+    let told = answers::of_mapping(answer);
+    report::tell(told, place, values)
 }
 
 // Checks a mapping against its job. The value of a refusal 1 to 6 is 0 for the job and 1 for the mapping; those of 10 are the port,
@@ -35,8 +36,8 @@ pub extern "C" fn deqhulov_check(
     ensures { λ r. ⌜ D.TellsCheck (now (job .entry)) (now (mapping .entry)) r (now (place .exit)) (now (values .entry)) (now (values .exit)) ⌝ }
 {
     let checked = checker::check(job, mapping);
-    let report = paper::of_check(checked);
-    paper::tell(report, place, values)
+    let told = answers::of_check(checked);
+    report::tell(told, place, values)
 }
 
 // Judges a recipe word at a width. The values of 10 are the port, the operands and the carry.
@@ -45,6 +46,6 @@ pub extern "C" fn deqhulov_judge(word: u32, width: u32, place: &mut u64, values:
     ensures { λ r. ⌜ D.TellsJudgement word width r (now (place .exit)) (now (values .entry)) (now (values .exit)) ⌝ }
 {
     let judgement = verdict::judge(word, width);
-    let report = paper::of_judgement(judgement);
-    paper::tell(report, place, values)
+    let told = answers::of_judgement(judgement);
+    report::tell(told, place, values)
 }

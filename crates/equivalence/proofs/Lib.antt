@@ -2,4 +2,3 @@ pub mod States
 pub mod Places
 pub mod Sets
 pub mod Walks
-pub mod Found

@@ -15,7 +15,7 @@ use Rattle.binding.specs.declared.Recipe.{Recipe}
 use Rattle.automaton.specs.Machine.{cellOf, nextBy, alikeBy, lastBy}
 use Rattle.automaton.specs.declared.Cell.{Cell}
 use Rattle.automaton.specs.declared.State.{State}
-use Rattle.equivalence.specs.Search.{indexOf, stateOf, cellAt, noCell, Cells, moveBy, topBy, slot, Table}
+use Rattle.equivalence.specs.Sets.{indexOf, stateOf, cellAt, noCell, Cells, moveBy, topBy, slot, Table}
 
 pub filled : {A : Type 0} (d : A) (F : ℕ → A) (l : List A) (i : ℕ) (e : A) → i < length l → e ≡ F i
     → ((k : ℕ) → k < i → getD l k d ≡ F k) → (k : ℕ) → k < i + 1 → getD (set l i e) k d ≡ F k

@@ -12,13 +12,13 @@ use lib.ListN.{getD, length}
 use lib.Pow.{pow-mono}
 use borrow.Author.Tests.{lt-leb, le-leb, lt-ltb, le-ltb}
 use Rattle.words.specs.Choice.{if_then_else_}
-use Rattle.alu.specs.Bits.{num, bit, word}
-use Rattle.alu.proofs.Words.{bit-word, word-lt}
+use Rattle.bits.specs.Bits.{num, bit, word}
+use Rattle.bits.proofs.Words.{bit-word, word-lt}
 use Rattle.binding.specs.declared.Side.{Side}
 use Rattle.binding.specs.declared.Recipe.{Recipe}
 use Rattle.automaton.specs.Machine.{next, alike, last, lowBit, agreesFrom}
 use Rattle.automaton.specs.declared.State.{State}
-use Rattle.equivalence.specs.Search.{indexOf, stateOf, moveOf, topOf, slot, Table, fails, someFails, round, failing, keptAt, Kept, TableSizes, Failing}
+use Rattle.equivalence.specs.Sets.{indexOf, stateOf, moveOf, topOf, slot, Table, fails, someFails, round, failing, keptAt, Kept, TableSizes, Failing}
 use Rattle.equivalence.proofs.States.{index-lt, state-index}
 
 -- ---- an entry

@@ -4,10 +4,10 @@ use Prim.Native.Nat.{ℕ, _/_, _%_, _<_}
 use native.Mathlib.Omega.{arith}
 use mathlib.Core.Bool.{Bool, true, false}
 use lib.Dec.{eqb}
-use Rattle.alu.specs.Bits.{num}
-use Rattle.alu.proofs.Sums.{num-lt}
+use Rattle.bits.specs.Bits.{num}
+use Rattle.bits.proofs.Sums.{num-lt}
 use Rattle.automaton.specs.declared.State.{State}
-use Rattle.equivalence.specs.Search.{indexOf, stateOf}
+use Rattle.equivalence.specs.Sets.{indexOf, stateOf}
 
 pub eqb-num : (d : ℕ) (b : Bool) → d ≡ num b → eqb d 1 ≡ b
 eqb-num d true e = rw e refl

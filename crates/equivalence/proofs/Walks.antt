@@ -10,14 +10,14 @@ use lib.ListN.{getD}
 use lib.Pow.{pow-pos, pow-mono}
 use borrow.Author.Tests.{lt-ltb, le-ltb}
 use Rattle.words.specs.Choice.{if_then_else_}
-use Rattle.alu.specs.Bits.{num, bit}
-use Rattle.alu.proofs.Sums.{num-lt}
-use Rattle.alu.proofs.Words.{suc-sub-one}
+use Rattle.bits.specs.Bits.{num, bit}
+use Rattle.bits.proofs.Sums.{num-lt}
+use Rattle.bits.proofs.Words.{suc-sub-one}
 use Rattle.binding.specs.declared.Side.{Side}
 use Rattle.binding.specs.declared.Recipe.{Recipe}
 use Rattle.automaton.specs.Machine.{next, alike, last, lowBit, agreesFrom}
 use Rattle.automaton.specs.declared.State.{State}
-use Rattle.equivalence.specs.Search.{indexOf, stateOf, moveOf, topOf, slot, Table, fails, someFails, failing, keptAt, Failing, Refuted, Stepped}
+use Rattle.equivalence.specs.Sets.{indexOf, stateOf, moveOf, topOf, slot, Table, fails, someFails, failing, keptAt, Failing, Refuted, Stepped}
 use Rattle.equivalence.specs.declared.witness.Step.{Step}
 use Rattle.equivalence.specs.declared.witness.Step.the-variants.{Ends, Leads}
 use Rattle.equivalence.proofs.States.{eqb-num, index-lt, state-index}

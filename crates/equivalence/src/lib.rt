@@ -1,5 +1,5 @@
-// The search for operands at which a recipe does not show what the side of its source shows, at a width.
-mod moves;
-mod rounds;
-pub mod search;
-mod witness;
+// The states from which a recipe fails: tables of what happens at one place, sets of failing states from the top place down, and a walk
+// to operands from the lowest place up.
+pub mod moves;
+pub mod rounds;
+pub mod witness;

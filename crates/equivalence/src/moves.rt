@@ -7,8 +7,8 @@ use binding::Recipe;
 use binding::Side;
 ghost use mathlib.Core.Path.{_≡_};
 ghost use Prim.Native.Nat.{_<_};
-ghost use Rattle.alu.specs.Bits.{num};
-ghost use Rattle.equivalence.specs.Search as S;
+ghost use Rattle.bits.specs.Bits.{num};
+ghost use Rattle.equivalence.specs.Sets as S;
 
 // For each state and pair of bits, at 4 * state + pair: the number of the state after it, or 64 where O0 differs; and 64 where a port
 // differs if the place is the top one, else 0.

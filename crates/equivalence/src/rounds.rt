@@ -2,8 +2,8 @@
 ghost use mathlib.Core.Path.{_≡_};
 ghost use Prim.Native.Nat.{_+_, _*_, _^_, _<_};
 ghost use lib.ListN.{length, getD};
-ghost use Rattle.alu.specs.Bits.{num};
-ghost use Rattle.equivalence.specs.Search as S;
+ghost use Rattle.bits.specs.Bits.{num};
+ghost use Rattle.equivalence.specs.Sets as S;
 
 // The sets with 1, 2, .. places to go, up to sets[last]; from there on they are all the same.
 pub struct Rounds {

@@ -4,7 +4,7 @@ ghost use mathlib.Core.Path.{_≡_};
 ghost use mathlib.Core.Bool.{true};
 ghost use Prim.Native.Nat.{_+_, _*_, _/_, _%_, _^_, _<_};
 ghost use lib.ListN.{length, getD};
-ghost use Rattle.equivalence.specs.Search as S;
+ghost use Rattle.equivalence.specs.Sets as S;
 
 pub struct Operands {
     pub left: u64,

@@ -1,8 +1,8 @@
 // The evaluator and the reference side by side.
 use alu::Evaluation;
-use reference::Tally;
-use reference::number;
-use reference::say;
+use reference::places::number;
+use testing::say;
+use testing::tally::Tally;
 
 // What an evaluator is given, in document 01's order.
 pub struct Given {
@@ -49,8 +49,14 @@ fn of_alu(g: Given) -> Told {
 }
 
 pub fn of_reference(g: Given) -> Told {
-    let shown = reference::evaluate(g.function, g.width, g.left, g.right, g.carry);
-    let place = reference::first_out_of_range(g.function, g.width, g.left, g.right, g.carry);
+    let shown = reference::evaluator::evaluate(g.function, g.width, g.left, g.right, g.carry);
+    let place = reference::evaluator::first_out_of_range(
+        g.function,
+        g.width,
+        g.left,
+        g.right,
+        g.carry,
+    );
     Told {
         number: if place < 5 { 3 } else { 0 },
         place: place as usize,
@@ -74,23 +80,34 @@ pub fn agree(given: Given, place: usize) -> bool {
         & (told.o1 == second.o1)
 }
 
-fn say_told(name: &[u8], told: Told) {
-    say::count(name, told.number as u64);
-    say::count(b" at ", told.place as u64);
-    say::count(b" O0 ", told.o0);
-    say::count(b" OCOUT ", told.ocout as u64);
-    say::count(b" OVF ", told.ovf as u64);
-    say::count(b" O1 ", told.o1 as u64);
+fn say_told(told: Told) {
+    say::line(
+        b"# at # O0 # OCOUT # OVF # O1 #",
+        &[
+            told.number as u64,
+            told.place as u64,
+            told.o0,
+            told.ocout as u64,
+            told.ovf as u64,
+            told.o1 as u64,
+        ],
+    );
 }
 
 fn say_difference(given: Given) {
-    say::count(b"differs: function ", given.function as u64);
-    say::count(b" width ", given.width as u64);
-    say::count(b" left ", given.left);
-    say::count(b" right ", given.right);
-    say::count(b" carry ", given.carry as u64);
-    say_told(b"; alu: refused ", of_alu(given));
-    say_told(b"; reference: refused ", of_reference(given));
+    say::line(
+        b"differs: function # width # left # right # carry #; alu: refused ",
+        &[
+            given.function as u64,
+            given.width as u64,
+            given.left,
+            given.right,
+            given.carry as u64,
+        ],
+    );
+    say_told(of_alu(given));
+    say::text(b"; reference: refused ");
+    say_told(of_reference(given));
     say::text(b"\n");
 }
 
@@ -101,5 +118,5 @@ pub fn counted(tally: Tally, given: Given, same: bool) -> Tally {
             say_difference(given);
         }
     }
-    reference::counted(tally, same)
+    testing::tally::counted(tally, same)
 }

@@ -3,11 +3,11 @@ use crate::beside::Given;
 use crate::beside::agree;
 use crate::beside::counted;
 use crate::beside::of_reference;
-use reference::Tally;
+use testing::tally::Tally;
 
 // Each function at a width, of zeros: refused at `place`, or shown where that is 5.
 pub fn at_width(width: u32, place: usize) -> Tally {
-    let mut tally = reference::none();
+    let mut tally = testing::tally::none();
     let mut function = 1;
     while function <= 27 {
         let given = Given {
@@ -46,7 +46,7 @@ const VECTORS: [u64; 16] = [
 
 // At 0011 and 0101 each pair of bits stands at the place of its minterm, so that a logic function shows its vector.
 pub fn vectors() -> Tally {
-    let mut tally = reference::none();
+    let mut tally = testing::tally::none();
     let mut i = 0;
     while i < 16 {
         let given = Given {
@@ -67,12 +67,12 @@ pub fn vectors() -> Tally {
 // The inputs from one on to before another: 27 functions turning fastest, then 64 widths, then the reference's operands, of which 98
 // are corners and the rest random.
 pub fn turns(from: u32, to: u32) -> Tally {
-    let mut tally = reference::none();
+    let mut tally = testing::tally::none();
     let mut x = 0x2545_f491_4f6c_dd1d;
     let mut i = from;
     while i < to {
         let width = i / 27 % 64 + 1;
-        let operands = reference::sampled(width, i / 1728, x);
+        let operands = reference::trial::sampled(width, i / 1728, x);
         let given = Given {
             function: i % 27 + 1,
             width,
@@ -82,7 +82,7 @@ pub fn turns(from: u32, to: u32) -> Tally {
         };
         let next = counted(tally, given, agree(given, 5));
         tally = next;
-        x = reference::next(reference::next(reference::next(x)));
+        x = reference::trial::next(reference::trial::next(reference::trial::next(x)));
         i += 1;
     }
     tally

@@ -9,16 +9,20 @@ use groups::at_width;
 use groups::turns;
 use groups::vectors;
 use ranges::first_out_at;
-use reference::say::report;
+use testing::names::name_at;
+use testing::say::report;
+
+const RANGES: [u8; 117] =
+    *b"function out of range|width out of range|left out of range|right out of range\
+    |carry out of range|nothing out of range";
 
 // By the first place that is out of range.
 fn report_ranges() {
-    report(b"function out of range", first_out_at(0));
-    report(b"width out of range", first_out_at(1));
-    report(b"left out of range", first_out_at(2));
-    report(b"right out of range", first_out_at(3));
-    report(b"carry out of range", first_out_at(4));
-    report(b"nothing out of range", first_out_at(5));
+    let mut place = 0;
+    while place < 6 {
+        report(name_at(&RANGES, place), first_out_at(place));
+        place += 1;
+    }
 }
 
 fn main() {

@@ -3,8 +3,8 @@
 use crate::beside::Given;
 use crate::beside::agree;
 use crate::beside::counted;
-use reference::Tally;
-use reference::ones;
+use reference::trial::ones;
+use testing::tally::Tally;
 
 const FUNCTIONS: [u32; 5] = [1, 27, 0, 28, 4294967295];
 
@@ -63,7 +63,7 @@ fn first_place(i: u32) -> usize {
 
 // All choices that are first out of range at a place; at 5, all that are in range.
 pub fn first_out_at(place: usize) -> Tally {
-    let mut tally = reference::none();
+    let mut tally = testing::tally::none();
     let mut i = 0;
     while i < 3125 {
         if first_place(i) == place {

@@ -1,10 +1,10 @@
 // Maps the jobs of the examples and checks their mappings. Each file is a text of words in hexadecimal digits.
-use console::KEPT_WORDS;
+use hex::Hex;
+use hex::Step;
+use input::KEPT_WORDS;
 use libc::STDOUT_FILENO;
 use mapper::Answer;
-use reader::MOST_MAPPING_WORDS;
-use text::hex::Hex;
-use text::hex::Step;
+use sequence::MOST_MAPPING_WORDS;
 ghost use Prim.Native.Nat.{_+_, _≤_, _<_};
 ghost use lib.ListN.{length};
 
@@ -24,7 +24,7 @@ fn take(hex: Hex, byte: u8, words: &mut [u32], count: usize) -> Taken
     requires { ⌜ count < length (now words) ⌝ }
     ensures { λ r. ⌜ r .count ≤ count + 1 ⌝ }
 {
-    let step = text::hex::taken(hex, byte);
+    let step = hex::taken(hex, byte);
     match step {
         Step::More(more) => Taken {
             hex: more,
@@ -34,7 +34,7 @@ fn take(hex: Hex, byte: u8, words: &mut [u32], count: usize) -> Taken
         Step::Word(word) => {
             words[count] = word;
             Taken {
-                hex: text::hex::no_digits(),
+                hex: hex::no_digits(),
                 count: count + 1,
                 bad: false,
             }
@@ -51,7 +51,7 @@ fn take(hex: Hex, byte: u8, words: &mut [u32], count: usize) -> Taken
 fn words_in(bytes: &[u8], words: &mut [u32]) -> usize
     ensures { λ r. ⌜ r ≤ length (now (words .entry)) ⌝ }
 {
-    let mut hex = text::hex::no_digits();
+    let mut hex = hex::no_digits();
     let mut count = 0;
     let mut i = 0;
     while i < bytes.len() {

@@ -12,7 +12,7 @@ use Rattle.words.specs.Choice.{if_then_else_}
 use Rattle.words.specs.Paper.{refusal}
 use Rattle.words.proofs.Choices.{either}
 use Rattle.words.proofs.Lists.{drop-next}
-use Rattle.reader.specs.Limits.{bindingsStart}
+use Rattle.reader.specs.Starts.{bindingsStart}
 use Rattle.reader.specs.declared.Job.{Job}
 use Rattle.reader.specs.declared.Mapping.{Mapping}
 use Rattle.table.specs.Parts.{Terms, termsWith}

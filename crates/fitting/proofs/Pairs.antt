@@ -3,7 +3,7 @@ use mathlib.Core.Path.{_≡_, sym, ap, ap₂, _∙_}
 use mathlib.Core.List.{List}
 use Prim.Native.Nat.{ℕ}
 use native.Mathlib.Omega.{arith}
-use Rattle.alu.specs.Asked.{Width}
+use Rattle.bits.specs.Asked.{Width}
 use Rattle.words.specs.declared.Refusal.{Refusal}
 use Rattle.reader.specs.Job.{jobOf, WellFormedJob}
 use Rattle.reader.specs.Mapping.{mappingOf, WellFormedMapping}

@@ -5,7 +5,7 @@ use mathlib.Core.List.{List, [], _∷_}
 use lib.Dec.{eqb}
 use Rattle.words.specs.Choice.{if_then_else_}
 use Rattle.words.specs.Paper.{refusal}
-use Rattle.reader.specs.Limits.{bindingsStart}
+use Rattle.reader.specs.Starts.{bindingsStart}
 use Rattle.reader.specs.declared.Mapping.{Mapping}
 use Rattle.table.specs.Parts.{Terms}
 use Rattle.table.specs.Table.{inJob}

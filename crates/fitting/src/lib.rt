@@ -5,7 +5,7 @@ use reader::Mapping;
 use reader::MappingRead;
 use words::Refusal;
 ghost use mathlib.Core.Path.{_≡_};
-ghost use Rattle.reader.specs.Limits.{bindingsStart};
+ghost use Rattle.reader.specs.Starts.{bindingsStart};
 ghost use Rattle.table.specs.Parts as T;
 ghost use Rattle.fitting.specs.Pair as P;
 ghost use Rattle.fitting.specs.Fitting as F;

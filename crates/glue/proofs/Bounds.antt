@@ -10,7 +10,7 @@ use lib.Dec.{leb}
 use lib.ListN.{length}
 use Rattle.words.specs.Choice.{if_then_else_}
 use Rattle.words.specs.declared.Prices.{Prices}
-use Rattle.alu.specs.Bits.{num, bit}
+use Rattle.bits.specs.Bits.{num, bit}
 use Rattle.glue.specs.Glue.{InUse, some, distinct, steps, wirings, complements, carryIn, mainOutput, carryOut, codePrice, codesCount, comparison, comparisonCodes, scratch, countOf, glue, inUse, wiringCodes, carryCodes, outputCodes, minterms, NOT-SI0, NOT-SI1, NOT-SICIN, NOT-TO0, NOT-TOCOUT}
 use Rattle.glue.specs.Asked.{InRange}
 

@@ -14,8 +14,8 @@ use lib.ListN.{length, getD}
 use lib.Pow.{pow-pos, shr-shr, mod-mod-pow, field as cut-shr}
 use Rattle.words.specs.Choice.{if_then_else_}
 use Rattle.words.specs.declared.Prices.{Prices}
-use Rattle.alu.specs.Bits.{num, bit}
-use Rattle.alu.specs.Asked.{Width}
+use Rattle.bits.specs.Bits.{num, bit}
+use Rattle.bits.specs.Asked.{Width}
 use Rattle.usage.proofs.Bits.{one-shifted}
 use Rattle.glue.specs.Glue.{distinct, codePrice, codesCount, comparisonCodes}
 use Rattle.glue.specs.Asked.{InRange}

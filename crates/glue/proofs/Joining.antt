@@ -7,7 +7,7 @@ use native.Mathlib.Nat.{zero-div, zero-mod}
 use lib.Bits.{bitOr}
 use Rattle.words.specs.Field.{field}
 use Rattle.words.specs.declared.Prices.{Prices}
-use Rattle.alu.specs.Bits.{bit}
+use Rattle.bits.specs.Bits.{bit}
 use Rattle.recipe.specs.Fields.{fromScratch}
 use Rattle.usage.specs.Sets.{usageOf, usage}
 use Rattle.usage.proofs.Bits.{or-bit, or-field, bit-zero}

@@ -6,7 +6,7 @@ use native.Mathlib.Omega.{arith}
 use borrow.Author.Tests.{le-leb, lt-leb}
 use Rattle.words.specs.Choice.{if_then_else_}
 use Rattle.words.specs.declared.Prices.{Prices}
-use Rattle.alu.specs.Bits.{num, bit}
+use Rattle.bits.specs.Bits.{num, bit}
 use Rattle.glue.specs.Glue.{steps, distinct, minterms, comparisonCodes, wirings, complements, carryIn, mainOutput, carryOut, codePrice, codesCount, comparison, scratch, countOf}
 use Rattle.glue.specs.Parts.{codes, partsOf, used, setCount}
 use Rattle.glue.specs.declared.Parts.{Parts}

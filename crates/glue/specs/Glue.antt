@@ -6,7 +6,7 @@ use lib.Dec.{eqb, leb}
 use lib.ListN.{getD}
 use Rattle.words.specs.Choice.{if_then_else_}
 use Rattle.words.specs.declared.Prices.{Prices}
-use Rattle.alu.specs.Bits.{num, bit}
+use Rattle.bits.specs.Bits.{num, bit}
 use Rattle.recipe.specs.Fields.{fromScratch, vectorOf, fieldsOf}
 use Rattle.recipe.specs.declared.Fields.{Fields}
 

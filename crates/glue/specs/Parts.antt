@@ -4,7 +4,7 @@ use Prim.Native.Nat.{ℕ, zero, suc}
 use mathlib.Core.List.{List, [], _∷_}
 use Rattle.words.specs.Field.{field}
 use Rattle.words.specs.declared.Prices.{Prices}
-use Rattle.alu.specs.Bits.{bit}
+use Rattle.bits.specs.Bits.{bit}
 use Rattle.glue.specs.Glue.{InUse, countOf}
 use Rattle.glue.specs.declared.Parts.{Parts}
 

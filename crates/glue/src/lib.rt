@@ -3,8 +3,8 @@ use words::Prices;
 ghost use mathlib.Core.Path.{_≡_};
 ghost use Prim.Native.Nat.{_+_, _*_, _≤_, _<_};
 ghost use Rattle.words.specs.Choice.{if_then_else_};
-ghost use Rattle.alu.specs.Bits as B;
-ghost use Rattle.alu.specs.Asked as Q;
+ghost use Rattle.bits.specs.Bits as B;
+ghost use Rattle.bits.specs.Asked as Q;
 ghost use Rattle.glue.specs.Glue as G;
 ghost use Rattle.glue.specs.Parts as P;
 

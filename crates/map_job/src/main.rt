@@ -3,7 +3,7 @@
 use libc::STDERR_FILENO;
 use libc::STDIN_FILENO;
 use mapper::Answer;
-use reader::MOST_MAPPING_WORDS;
+use sequence::MOST_MAPPING_WORDS;
 use words::Refusal;
 
 fn write_words(fd: i32, words: &[u32]) {
@@ -54,8 +54,8 @@ fn main() {
         io::write_all(STDERR_FILENO, b"usage: map_job [FILE] < JOB\n");
         return;
     }
-    let mut job = [0u32; console::KEPT_WORDS];
-    let input = console::read_words(STDIN_FILENO, &mut job);
+    let mut job = [0u32; input::KEPT_WORDS];
+    let input = input::read_words(STDIN_FILENO, &mut job);
     if input.failed {
         os::fail(b"standard input");
         return;

@@ -8,10 +8,11 @@ use borrow.Author.Tests.{not-true, not-false}
 use lib.ListN.{length, take, drop, length-drop}
 use lib.Seq.{length-take-le}
 use Rattle.words.specs.Choice.{if_then_else_}
-use Rattle.alu.specs.Asked.{Width}
+use Rattle.bits.specs.Asked.{Width}
 use Rattle.words.specs.Paper.{refusal}
 use Rattle.words.specs.declared.Refusal.{Refusal}
-use Rattle.reader.specs.Limits.{mostSources, sourcesStart}
+use Rattle.sequence.specs.Limits.{mostSources}
+use Rattle.reader.specs.Starts.{sourcesStart}
 use Rattle.reader.specs.Job.{jobOf, WellFormedJob}
 use Rattle.reader.specs.declared.Job.{Job}
 use Rattle.reader.specs.declared.JobRead.{JobRead}
@@ -26,10 +27,10 @@ use Rattle.writer.specs.Asked.{Writable}
 use Rattle.writer.specs.Write.{mappingWords, writtenOf, lentAfter}
 use Rattle.writer.specs.declared.Written.{Written}
 use Rattle.writer.specs.declared.Written.the-variants as written
-use Rattle.mapper.specs.Choose.{Choice, Mapped, Unmappable, choose}
-use Rattle.mapper.specs.Chosen.{keptAs, KeptChoice, WritableChoice}
+use Rattle.choice.specs.Choose.{Choice, Mapped, Unmappable, choose}
+use Rattle.choice.specs.Chosen.{keptAs, KeptChoice, WritableChoice}
 use Rattle.mapper.specs.Mapping.{choiceOf, chosenWords, answerTo, answerFor, answerOf, lentTo, lentFor, lentAfterMap}
-use Rattle.mapper.specs.declared.choose.Chosen.{Chosen}
+use Rattle.choice.specs.declared.Chosen.{Chosen}
 use Rattle.mapper.specs.declared.Answer.{Answer}
 use Rattle.mapper.specs.declared.Answer.the-variants.{Mapping, Refused}
 

@@ -1,3 +1,1 @@
-pub mod Choose
-pub mod Chosen
 pub mod Mapping

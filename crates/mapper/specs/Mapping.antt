@@ -12,7 +12,7 @@ use Rattle.pricer.specs.Pricing.{glueOf}
 use Rattle.writer.specs.Write.{mappingWords, writtenOf, lentAfter}
 use Rattle.writer.specs.declared.Written.{Written}
 use Rattle.writer.specs.declared.Written.the-variants as written
-use Rattle.mapper.specs.Choose.{Choice, Mapped, Unmappable, choose}
+use Rattle.choice.specs.Choose.{Choice, Mapped, Unmappable, choose}
 use Rattle.mapper.specs.declared.Answer.{Answer}
 use Rattle.mapper.specs.declared.Answer.the-variants.{Mapping, Refused}
 

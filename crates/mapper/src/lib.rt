@@ -1,7 +1,5 @@
 // The mapper: for each source of a job the rule of document 01's choice, written as a mapping into lent words.
-mod choose;
-
-use choose::Chosen;
+use choice::Chosen;
 use reader::Job;
 use reader::JobRead;
 use words::Refusal;
@@ -10,7 +8,7 @@ ghost use mathlib.Core.Path.{_≡_};
 ghost use Rattle.reader.specs.Job as J;
 ghost use lib.ListN.{take};
 ghost use Rattle.writer.specs.Write as W;
-ghost use Rattle.mapper.specs.Chosen as K;
+ghost use Rattle.choice.specs.Chosen as K;
 ghost use Rattle.mapper.specs.Mapping as M;
 
 // The number of words written, or the refusal: the job's 1 to 6, 12, then 23.
@@ -27,7 +25,7 @@ fn choice_of(job: Job, words: &[u32]) -> Chosen
     let sources = table::sources_of(words, job);
     let targets = table::targets_of(words, job);
     let rules = table::rules_of(words, job);
-    choose::choose(job, sources, targets, rules)
+    choice::choose(job, sources, targets, rules)
 }
 
 // Writes the mapping that binds by the chosen rules.

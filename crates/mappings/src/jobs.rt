@@ -49,9 +49,9 @@ pub fn largest() -> [u32; 568] {
     let mut function: u32 = 1;
     let mut place = 1;
     while place < 28 {
-        words[place + 1] = reference::word_of(3, function);
-        words[place + 28] = reference::word_of(4, function);
-        words[place + 540] = reference::word_of(5, function);
+        words[place + 1] = testing::words::word_of(3, function);
+        words[place + 28] = testing::words::word_of(4, function);
+        words[place + 540] = testing::words::word_of(5, function);
         function = std::num::wrapping_add_u32(function, 1);
         place += 1;
     }

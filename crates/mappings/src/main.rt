@@ -11,7 +11,7 @@ use jobs::TARGET_MISSING;
 use show::mapped;
 
 fn printed() {
-    let job = reference::JOB;
+    let job = testing::words::JOB;
     mapped(b"printed job", &job, 6);
     mapped(b"printed job, one word too few", &job, 5);
     mapped(b"printed job, no words", &job, 0);

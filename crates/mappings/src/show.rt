@@ -1,7 +1,7 @@
 // What the mapper answers, and the lent words afterwards.
 use mapper::Answer;
-use reference::at;
-use reference::say;
+use testing::say;
+use testing::words::at;
 ghost use Prim.Native.Nat.{_≤_};
 
 // What a lent word holds before.

@@ -1,9 +1,9 @@
 // Words written as eight hexadecimal digits, parted by spaces or line feeds, on standard input; their bytes on standard output.
+use hex::Hex;
+use hex::Step;
 use libc::STDERR_FILENO;
 use libc::STDIN_FILENO;
 use libc::STDOUT_FILENO;
-use text::hex::Hex;
-use text::hex::Step;
 ghost use mathlib.Core.Path.{_≡_};
 ghost use mathlib.Core.Bool.{false};
 ghost use Prim.Native.Nat.{_+_, _≤_, _<_, _^_};
@@ -36,7 +36,7 @@ fn next(hex: Hex, byte: u8, at: usize) -> Progress
     requires { ⌜ at < 2 ^ 62 ⌝ }
     ensures { λ r. ⌜ (r .ended ≡ false → r .bytes ≡ at + 1) ⌝ }
 {
-    let step = text::hex::taken(hex, byte);
+    let step = hex::taken(hex, byte);
     match step {
         Step::More(more) => Progress {
             hex: more,
@@ -46,7 +46,7 @@ fn next(hex: Hex, byte: u8, at: usize) -> Progress
         Step::Word(word) => {
             write_word(word);
             Progress {
-                hex: text::hex::no_digits(),
+                hex: hex::no_digits(),
                 bytes: at + 1,
                 ended: false,
             }
@@ -86,7 +86,7 @@ fn take_all(hex: Hex, chunk: &[u8], at: usize) -> Progress
 
 // The end of the text: a last word may stand there without a gap behind it.
 fn finish(hex: Hex, at: usize) {
-    let step = text::hex::ended(hex);
+    let step = hex::ended(hex);
     match step {
         Step::More(_) => {}
         Step::Word(word) => write_word(word),
@@ -125,7 +125,7 @@ fn take_some(hex: Hex, at: usize) -> Progress
 const MOST: usize = 2305843009213693952;
 
 fn main() {
-    let mut now = text::hex::no_digits();
+    let mut now = hex::no_digits();
     let mut bytes = 0;
     while bytes < MOST {
         let progress = take_some(now, bytes);

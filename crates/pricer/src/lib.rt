@@ -5,7 +5,7 @@ use reader::Job;
 use reader::Mapping;
 use words::Refusal;
 ghost use mathlib.Core.Path.{_≡_};
-ghost use Rattle.alu.specs.Asked as Q;
+ghost use Rattle.bits.specs.Asked as Q;
 ghost use Rattle.table.specs.Parts as T;
 ghost use Rattle.pricer.specs.Pricing as P;
 

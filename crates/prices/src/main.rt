@@ -2,18 +2,18 @@
 mod random;
 mod tables;
 
+use accounts::glue::Costs;
+use accounts::glue::glue_count;
 use random::costs_from;
 use random::word_from;
-use reference::Costs;
-use reference::Tally;
-use reference::at;
-use reference::counted;
-use reference::glue_count;
-use reference::next;
-use reference::none;
-use reference::say;
+use reference::trial::next;
 use tables::ALL;
 use tables::SINGLE;
+use testing::say;
+use testing::tally::Tally;
+use testing::tally::counted;
+use testing::tally::none;
+use testing::words::at;
 use words::Prices;
 
 const SEED: u64 = 0x9e37_79b9_7f4a_7c15;
@@ -102,7 +102,7 @@ fn grown(tally: Tally, words: &[u32], sets: usize, costs: Costs) -> Tally {
     let mut usage: u64 = 0;
     let mut k = 0;
     while k < sets {
-        let second = glue_count(reference::first(words, k), costs);
+        let second = glue_count(testing::words::first(words, k), costs);
         let after = counted(t, price(usage, costs) == second);
         t = after;
         usage = usage | usage::usage_of(at(words, k));
@@ -139,7 +139,7 @@ fn total(name: &[u8], words: &[u32], n: u64, multiplexer: u64, other: u64) {
 }
 
 fn report_totals() {
-    let printed = reference::MAPPING;
+    let printed = testing::words::MAPPING;
     total(
         b"no bindings at width 64 and prices 255: ",
         &printed[..0],
@@ -156,7 +156,7 @@ fn report_totals() {
     );
     total(
         b"printed mapping: ",
-        reference::bindings_of(&printed),
+        testing::words::bindings_of(&printed),
         16,
         3,
         1,

@@ -1,6 +1,6 @@
 // Recipe words, widths and prices made of random numbers.
-use reference::Costs;
-use reference::next;
+use accounts::glue::Costs;
+use reference::trial::next;
 
 // A binding with a target, its codes those of the layout, or one from scratch. One word in eight has any bits.
 pub fn word_from(x: u64) -> u32 {

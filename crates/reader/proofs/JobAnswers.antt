@@ -7,17 +7,17 @@ use lib.ListN.{length, getD}
 use borrow.Author.Tests.{lt-ltb, le-ltb}
 use Rattle.words.specs.Paper.{refusal}
 use Rattle.words.specs.declared.Refusal.{Refusal}
-use Rattle.reader.specs.Limits.{mostJobWords}
-use Rattle.reader.specs.Reading.{beginning, reading}
+use Rattle.sequence.specs.Limits.{mostJobWords}
+use Rattle.grammar.specs.Reading.{beginning, reading}
 use Rattle.reader.specs.Job.{jobFacts, jobEnded, jobOf}
-use Rattle.reader.specs.declared.sequence.File.the-variants.{AsJob}
-use Rattle.reader.specs.declared.sequence.State.{State}
-use Rattle.reader.specs.declared.step.Reading.{Reading}
-use Rattle.reader.specs.declared.step.Reading.the-variants.{Passed, Stopped}
+use Rattle.sequence.specs.declared.File.the-variants.{AsJob}
+use Rattle.sequence.specs.declared.State.{State}
+use Rattle.grammar.specs.declared.step.Reading.{Reading}
+use Rattle.grammar.specs.declared.step.Reading.the-variants.{Passed, Stopped}
 use Rattle.reader.specs.declared.Job.{Job}
 use Rattle.reader.specs.declared.JobRead.the-variants.{Accepted, Refused}
 use Rattle.reader.proofs.Limits.{none, many, between}
-use Rattle.reader.proofs.Stages.{two-words}
+use Rattle.grammar.proofs.Stages.{two-words}
 
 module _ (ws : List ℕ) where
   pub no-words : length ws < 1 → Refused (refusal 1 0) ≡ jobOf ws

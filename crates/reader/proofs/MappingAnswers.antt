@@ -8,13 +8,13 @@ use borrow.Author.Tests.{eq-eqb, ne-eqb}
 use Rattle.words.specs.Kinds.{GLUE}
 use Rattle.words.specs.Paper.{refusal}
 use Rattle.words.specs.declared.Refusal.{Refusal}
-use Rattle.reader.specs.Limits.{mostMappingWords}
-use Rattle.reader.specs.Reading.{beginning, reading}
+use Rattle.sequence.specs.Limits.{mostMappingWords}
+use Rattle.grammar.specs.Reading.{beginning, reading}
 use Rattle.reader.specs.Mapping.{mappingFacts, mappingEnded, mappingOf}
-use Rattle.reader.specs.declared.sequence.File.the-variants.{AsMapping}
-use Rattle.reader.specs.declared.sequence.State.{State}
-use Rattle.reader.specs.declared.step.Reading.{Reading}
-use Rattle.reader.specs.declared.step.Reading.the-variants.{Passed, Stopped}
+use Rattle.sequence.specs.declared.File.the-variants.{AsMapping}
+use Rattle.sequence.specs.declared.State.{State}
+use Rattle.grammar.specs.declared.step.Reading.{Reading}
+use Rattle.grammar.specs.declared.step.Reading.the-variants.{Passed, Stopped}
 use Rattle.reader.specs.declared.Mapping.{Mapping}
 use Rattle.reader.specs.declared.MappingRead.the-variants.{Accepted, Refused}
 use Rattle.reader.proofs.Limits.{none, many, between}

@@ -8,12 +8,12 @@ use Rattle.words.specs.Choice.{if_then_else_}
 use Rattle.words.specs.Field.{field}
 use Rattle.words.specs.Paper.{Paper, refusal, accepted, told}
 use Rattle.words.specs.declared.Prices.{Prices}
-use Rattle.reader.specs.Limits.{mostJobWords}
-use Rattle.reader.specs.Reading.{reading, beginning}
-use Rattle.reader.specs.declared.sequence.File.the-variants.{AsJob}
-use Rattle.reader.specs.declared.sequence.State.{State}
-use Rattle.reader.specs.declared.step.Reading.{Reading}
-use Rattle.reader.specs.declared.step.Reading.the-variants.{Passed, Stopped}
+use Rattle.sequence.specs.Limits.{mostJobWords}
+use Rattle.grammar.specs.Reading.{reading, beginning}
+use Rattle.sequence.specs.declared.File.the-variants.{AsJob}
+use Rattle.sequence.specs.declared.State.{State}
+use Rattle.grammar.specs.declared.step.Reading.{Reading}
+use Rattle.grammar.specs.declared.step.Reading.the-variants.{Passed, Stopped}
 use Rattle.reader.specs.declared.Job.{Job}
 use Rattle.reader.specs.declared.JobRead.{JobRead}
 use Rattle.reader.specs.declared.JobRead.the-variants.{Accepted, Refused}

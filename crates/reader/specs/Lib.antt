@@ -1,6 +1,3 @@
-pub mod Limits
-pub mod Sequence
-pub mod Reading
+pub mod Starts
 pub mod Job
 pub mod Mapping
-pub mod Asked

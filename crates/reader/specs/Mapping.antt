@@ -9,12 +9,12 @@ use Rattle.words.specs.Choice.{if_then_else_}
 use Rattle.words.specs.Field.{field}
 use Rattle.words.specs.Kinds.{GLUE}
 use Rattle.words.specs.Paper.{Paper, refusal, accepted, told}
-use Rattle.reader.specs.Limits.{mostMappingWords}
-use Rattle.reader.specs.Reading.{reading, beginning}
-use Rattle.reader.specs.declared.sequence.File.the-variants.{AsMapping}
-use Rattle.reader.specs.declared.sequence.State.{State}
-use Rattle.reader.specs.declared.step.Reading.{Reading}
-use Rattle.reader.specs.declared.step.Reading.the-variants.{Passed, Stopped}
+use Rattle.sequence.specs.Limits.{mostMappingWords}
+use Rattle.grammar.specs.Reading.{reading, beginning}
+use Rattle.sequence.specs.declared.File.the-variants.{AsMapping}
+use Rattle.sequence.specs.declared.State.{State}
+use Rattle.grammar.specs.declared.step.Reading.{Reading}
+use Rattle.grammar.specs.declared.step.Reading.the-variants.{Passed, Stopped}
 use Rattle.reader.specs.declared.Mapping.{Mapping}
 use Rattle.reader.specs.declared.MappingRead.{MappingRead}
 use Rattle.reader.specs.declared.MappingRead.the-variants.{Accepted, Refused}

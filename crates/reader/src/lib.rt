@@ -1,36 +1,16 @@
 // The reader of jobs and mappings: what their words say, or the first refusal, 1 to 6. Document 01, "Words" and "Refusals that
 // come from the input".
-mod sequence;
-mod step;
-
+use grammar::Reading;
 use sequence::File;
-use sequence::START;
+use sequence::MOST_JOB_WORDS;
+use sequence::MOST_MAPPING_WORDS;
 use sequence::State;
-use step::Reading;
-use step::Step;
 use words::Prices;
 use words::Refusal;
 ghost use mathlib.Core.Path.{_≡_};
-ghost use Prim.Native.Nat.{_≤_};
-ghost use lib.ListN.{length};
-ghost use Rattle.reader.specs.Limits as L;
-ghost use Rattle.reader.specs.Reading as R;
+ghost use Rattle.reader.specs.Starts as S;
 ghost use Rattle.reader.specs.Job as J;
 ghost use Rattle.reader.specs.Mapping as M;
-
-// The most sources, targets and rules of a job, and the most bindings of a mapping.
-pub const MOST_SOURCES: usize = 27;
-
-pub const MOST_TARGETS: usize = 27;
-
-pub const MOST_RULES: usize = 512;
-
-pub const MOST_BINDINGS: usize = 27;
-
-// The most words of a job and of a mapping.
-pub const MOST_JOB_WORDS: usize = 568;
-
-pub const MOST_MAPPING_WORDS: usize = 29;
 
 // The word at which the sources of a job begin, and the one at which the bindings of a mapping do.
 pub const SOURCES_START: usize = 2;
@@ -61,35 +41,6 @@ pub struct Mapping {
 pub enum MappingRead {
     Accepted(Mapping),
     Refused(Refusal),
-}
-
-// Word by word: the state after the last one, or the first refusal.
-fn read_words(file: File, words: &[u32]) -> Reading
-    requires { ⌜ length (now words) ≤ L.mostJobWords ⌝ }
-    ensures { λ r. ⌜ r ≡ R.reading file R.beginning 0 (now (words .entry)) ⌝ }
-{
-    let mut s = State {
-        stage: START,
-        function: alu::NO_FUNCTION,
-        sources: 0,
-        targets: 0,
-        rules: 0,
-        bindings: 0,
-    };
-    let mut i = 0;
-    while i < words.len() {
-        let taken = step::pass(file, s, words[i]);
-        match taken {
-            Step::Next(t) => {
-                s = t;
-            }
-            Step::Bad(number) => {
-                return Reading::Stopped(Refusal { number, place: i });
-            }
-        }
-        i += 1;
-    }
-    Reading::Passed(s)
 }
 
 // The prices of a job's second word.
@@ -131,7 +82,7 @@ pub fn read_job(words: &[u32]) -> JobRead
             place: 0,
         });
     }
-    let reading = read_words(File::AsJob, words);
+    let reading = grammar::read_words(File::AsJob, words);
     match reading {
         Reading::Stopped(refusal) => JobRead::Refused(refusal),
         Reading::Passed(s) => {
@@ -171,7 +122,7 @@ pub fn read_mapping(words: &[u32]) -> MappingRead
             place: 0,
         });
     }
-    let reading = read_words(File::AsMapping, words);
+    let reading = grammar::read_words(File::AsMapping, words);
     match reading {
         Reading::Stopped(refusal) => MappingRead::Refused(refusal),
         Reading::Passed(s) => {
@@ -188,13 +139,13 @@ pub fn read_mapping(words: &[u32]) -> MappingRead
 
 // The words at which a job's targets and rules begin.
 pub fn targets_start(job: Job) -> usize
-    ensures { λ r. ⌜ r ≡ L.targetsStart job ⌝ }
+    ensures { λ r. ⌜ r ≡ S.targetsStart job ⌝ }
 {
     SOURCES_START + job.sources as usize
 }
 
 pub fn rules_start(job: Job) -> usize
-    ensures { λ r. ⌜ r ≡ L.rulesStart job ⌝ }
+    ensures { λ r. ⌜ r ≡ S.rulesStart job ⌝ }
 {
     SOURCES_START + job.sources as usize + job.targets as usize
 }

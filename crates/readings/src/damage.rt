@@ -1,17 +1,18 @@
 // Random damage to a file.
-use crate::beside::ANY;
-use crate::beside::compare;
 use crate::random::draw;
 use crate::random::random_file;
 use crate::random::random_word;
-use reference::Numbers;
-use reference::at;
-use reference::put;
+use readers::ANY;
+use readers::compare;
 use std::num::wrapping_add_usize;
+use std::num::wrapping_sub_usize;
+use testing::tally::Numbers;
+use testing::words::at;
+use testing::words::put;
 
-// Removes the word at a place from n words.
-fn remove(words: &mut [u32], place: usize, n: usize) {
-    let mut i = place;
+// Removes the word at an index from n words.
+fn remove(words: &mut [u32], index: usize, n: usize) {
+    let mut i = index;
     while i < n {
         let next = at(words, wrapping_add_usize(i, 1));
         put(words, i, next);
@@ -19,10 +20,10 @@ fn remove(words: &mut [u32], place: usize, n: usize) {
     }
 }
 
-// Makes room at a place among n words; the word there then stands twice.
-pub fn repeat(words: &mut [u32], place: usize, n: usize) {
+// Makes room at an index among n words; the word there then stands twice.
+pub fn repeat(words: &mut [u32], index: usize, n: usize) {
     let mut i = n;
-    while place < i {
+    while index < i {
         let before = at(words, i - 1);
         put(words, i, before);
         i -= 1;
@@ -39,63 +40,66 @@ fn any_word(state: &mut u64) -> u32 {
     (kind << 28) | draw(state, 0x1000_0000)
 }
 
-// One word changed.
-fn change(words: &mut [u32], place: usize, state: &mut u64) {
-    let old = at(words, place);
+// A word changed: a bit turned, another kind, or some other word.
+fn changed(old: u32, state: &mut u64) -> u32 {
     let how = draw(state, 4);
     let bit = draw(state, 32);
-    if how < 2 {
-        put(words, place, old ^ (1u32 << (bit % 32)));
-        return;
+    match how {
+        0 | 1 => old ^ (1u32 << (bit % 32)),
+        2 => (old & 0x0fff_ffff) | (draw(state, 16) << 28),
+        _ => any_word(state),
     }
-    if how == 2 {
-        put(words, place, (old & 0x0fff_ffff) | (draw(state, 16) << 28));
-        return;
-    }
-    put(words, place, any_word(state));
 }
 
-// Damages n words at a place: a change, a cut, a word too few, a word twice, or one too many; past the end, one more. How many
+// One word too many at an index among n: a word twice, or some other word.
+fn grow(words: &mut [u32], index: usize, n: usize, twice: bool, state: &mut u64) {
+    repeat(words, index, n);
+    if !twice {
+        put(words, index, any_word(state));
+    }
+}
+
+// Damages n words at an index: a change, a cut, a word too few, a word twice, or one too many; past the end, one more. How many
 // words there are then.
-fn damage(words: &mut [u32], n: usize, place: usize, state: &mut u64) -> usize {
-    if n <= place {
+fn damage(words: &mut [u32], n: usize, index: usize, state: &mut u64) -> usize {
+    if n <= index {
         put(words, n, any_word(state));
         return wrapping_add_usize(n, 1);
     }
     let how = draw(state, 16);
-    if how < 10 {
-        change(words, place, state);
-        return n;
+    match how {
+        0..=9 => {
+            let word = changed(at(words, index), state);
+            put(words, index, word);
+            n
+        }
+        10 => index,
+        11 | 12 => {
+            remove(words, index, n);
+            n - 1
+        }
+        _ => {
+            grow(words, index, n, how == 13, state);
+            wrapping_add_usize(n, 1)
+        }
     }
-    if how == 10 {
-        return place;
-    }
-    if how < 13 {
-        remove(words, place, n);
-        return n - 1;
-    }
-    repeat(words, place, n);
-    if how == 13 {
-        return wrapping_add_usize(n, 1);
-    }
-    put(words, place, any_word(state));
-    wrapping_add_usize(n, 1)
 }
 
-// A place among n words: near the front, near the end, or anywhere.
-fn draw_place(state: &mut u64, n: usize) -> usize {
-    let place = draw(state, 600) as usize;
+// An index among n words: near the front, near the end, or anywhere.
+fn draw_index(state: &mut u64, n: usize) -> usize {
+    let any = draw(state, 600) as usize;
     let near = draw(state, 4);
-    if n < 6 {
-        return place % 6;
-    }
-    if near == 0 {
-        return place % 6;
+    if (n < 6) | (near == 0) {
+        return any % 6;
     }
     if near == 1 {
-        return n - 1 - place % 6;
+        return wrapping_sub_usize(n, 1 + any % 6);
     }
-    place % n
+    draw_below(any, n)
+}
+
+fn draw_below(any: usize, n: usize) -> usize {
+    if n == 0 { 0 } else { any % n }
 }
 
 // Damages n words up to three times; how many words there are then.
@@ -104,8 +108,8 @@ fn damaged(words: &mut [u32], n: usize, state: &mut u64) -> usize {
     let mut count = n;
     let mut i = 0;
     while i < times {
-        let place = draw_place(state, count);
-        count = damage(words, count, place, state);
+        let index = draw_index(state, count);
+        count = damage(words, count, index, state);
         i += 1;
     }
     count
@@ -115,7 +119,7 @@ fn damaged(words: &mut [u32], n: usize, state: &mut u64) -> usize {
 pub fn damaged_files(of_job: bool, files: u32) -> Numbers {
     let mut words = [0u32; 600];
     let mut state = 0x2545_f491_4f6c_dd1d;
-    let mut all = reference::no_numbers();
+    let mut all = testing::tally::no_numbers();
     let mut i = 0;
     while i < files {
         let n = random_file(of_job, &mut words, &mut state);

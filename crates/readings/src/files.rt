@@ -1,9 +1,9 @@
 // Files that both readers accept, of the sizes asked for: functions rise from 1, recipes are of functions out of themselves.
-use reference::put;
-use reference::word_of;
 use std::num::wrapping_add_usize;
+use testing::words::put;
+use testing::words::word_of;
 
-// So many words of a kind from a place on; the place after them. Rules begin again after the last function.
+// So many words of a kind from an index on; the index after them. Rules begin again after the last function.
 fn entries(words: &mut [u32], from: usize, kind: u32, count: usize) -> usize {
     let mut i = 0;
     while i < count {
@@ -13,6 +13,14 @@ fn entries(words: &mut [u32], from: usize, kind: u32, count: usize) -> usize {
         i += 1;
     }
     wrapping_add_usize(from, count)
+}
+
+// A job's words after its header.
+fn plain_job(words: &mut [u32], sources: usize, targets: usize, rules: usize) -> usize {
+    put(words, 1, 0x2001_0103);
+    let after_sources = entries(words, 2, 3, sources);
+    let after_targets = entries(words, after_sources, 4, targets);
+    entries(words, after_targets, 5, rules)
 }
 
 // A job, or a mapping with so many bindings as there are sources asked for. How many words there are.
@@ -25,10 +33,7 @@ pub fn plain(
 ) -> usize {
     put(words, 0, 0x1000_0010);
     if of_job {
-        put(words, 1, 0x2001_0103);
-        let a = entries(words, 2, 3, sources);
-        let b = entries(words, a, 4, targets);
-        return entries(words, b, 5, rules);
+        return plain_job(words, sources, targets, rules);
     }
     let end = entries(words, 1, 6, sources);
     put(words, end, 0x7000_0094);

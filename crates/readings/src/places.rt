@@ -1,13 +1,51 @@
 // Each refusal at every place where it can be met, and every kind of word at every place.
-use crate::beside::ANY;
-use crate::beside::compare;
 use crate::damage::repeat;
 use crate::files::plain;
-use reference::Numbers;
-use reference::at;
-use reference::put;
-use reference::word_of;
+use readers::ANY;
+use readers::compare;
+use readers::report;
 use std::num::wrapping_sub_usize;
+use testing::names::name_at;
+use testing::tally::Numbers;
+use testing::tally::no_numbers;
+use testing::words::at;
+use testing::words::put;
+use testing::words::word_of;
+
+// What is done to a file of 17 words: a refusal's number, met at a set of places, the lowest bit the first; the file cut; or every kind of
+// word put at every place.
+const DONE: [u32; 7] = [2, CUT, 3, 4, 5, 6, EVERY];
+
+const CUT: u32 = 0;
+
+const EVERY: u32 = 1;
+
+// Of a job, then of a mapping.
+const PLACES: [u32; 14] = [
+    0x1FFFF,
+    0,
+    0xFFFF,
+    0xF78,
+    0x1F000,
+    0x1F000,
+    0,
+    0x1FFFF,
+    0,
+    0xFFFF,
+    0xFFFC,
+    0xFFFE,
+    0xFFFE,
+    0,
+];
+
+const NAMES: [u8; 461] = *b"job, unknown kind at every place|job, cut after every word\
+    |job, bad layout at every place|job, a function repeated\
+    |job, undriven output in every rule|job, other outputs in every rule\
+    |job, every kind at every place\
+    |mapping, unknown kind at every place|mapping, cut after every word\
+    |mapping, bad layout at every place|mapping, a function repeated\
+    |mapping, undriven output in every binding|mapping, other outputs in every binding\
+    |mapping, every kind at every place";
 
 // A file of 17 words: 5 sources, 5 targets and 5 rules, or 15 bindings.
 fn seventeen(of_job: bool, words: &mut [u32]) {
@@ -37,32 +75,46 @@ fn spoilt_word(word: u32, before: u32, number: u32) -> u32 {
     }
 }
 
-fn spoilt_at(all: Numbers, of_job: bool, place: usize, number: u32) -> Numbers {
+// The word that a file has at an index.
+fn word_there(of_job: bool, place: usize) -> u32 {
     let mut words = [0u32; 17];
     seventeen(of_job, &mut words);
-    let before = at(&words, wrapping_sub_usize(place, 1));
-    let word = spoilt_word(at(&words, place), before, number);
+    at(&words, place)
+}
+
+// A word instead of the one at an index.
+fn instead(all: Numbers, of_job: bool, place: usize, word: u32, number: u32) -> Numbers {
+    let mut words = [0u32; 17];
+    seventeen(of_job, &mut words);
     put(&mut words, place, word);
     compare(all, of_job, &words, 17, number, place)
 }
 
-// A refusal from one place on to before another.
-pub fn spoilt(all: Numbers, of_job: bool, from: usize, to: usize, number: u32) -> Numbers {
-    let mut all = all;
-    let mut place = from;
-    while place < to {
-        let next = spoilt_at(all, of_job, place, number);
-        all = next;
+fn spoilt_at(all: Numbers, of_job: bool, place: usize, number: u32) -> Numbers {
+    let before = word_there(of_job, wrapping_sub_usize(place, 1));
+    let word = spoilt_word(word_there(of_job, place), before, number);
+    instead(all, of_job, place, word, number)
+}
+
+// A refusal at a set of places, by bits.
+fn spoilt(of_job: bool, places: u32, number: u32) -> Numbers {
+    let mut all = no_numbers();
+    let mut place: u32 = 0;
+    while place < 17 {
+        if (places >> place) % 2 == 1 {
+            let next = spoilt_at(all, of_job, place as usize, number);
+            all = next;
+        }
         place += 1;
     }
     all
 }
 
 // 2: the file cut short after each of its words.
-pub fn cuts(of_job: bool) -> Numbers {
+fn cuts(of_job: bool) -> Numbers {
     let mut words = [0u32; 17];
     seventeen(of_job, &mut words);
-    let mut all = reference::no_numbers();
+    let mut all = no_numbers();
     let mut n = 1;
     while n < 17 {
         let next = compare(all, of_job, &words, n, ANY, 0);
@@ -72,32 +124,62 @@ pub fn cuts(of_job: bool) -> Numbers {
     all
 }
 
-// A word of a kind at a place, instead of the one there and before it: with what stands there, or as each kind can have it.
-fn of_kind(all: Numbers, of_job: bool, place: usize, kind: u32, which: u32) -> Numbers {
+// A word before the one at an index.
+fn inserted(all: Numbers, of_job: bool, place: usize, word: u32) -> Numbers {
     let mut words = [0u32; 18];
     seventeen(of_job, &mut words);
-    let kept = at(&words, place);
-    let word = match which {
-        0 => (kind << 28) | (kept & 0x0fff_ffff),
-        1 => (kind << 28) | 27,
-        _ => (kind << 28) | (word_of(5, 27) & 0x0fff_ffff),
-    };
-    put(&mut words, place, word);
-    let instead = compare(all, of_job, &words, 17, ANY, 0);
-    put(&mut words, place, kept);
     repeat(&mut words, place, 17);
     put(&mut words, place, word);
-    compare(instead, of_job, &words, 18, ANY, 0)
+    compare(all, of_job, &words, 18, ANY, 0)
+}
+
+// A word of a kind: with what stands at an index, or as each kind can have it.
+fn of_kind(kind: u32, kept: u32, which: u32) -> u32 {
+    let content = match which {
+        0 => kept,
+        1 => 27,
+        _ => word_of(5, 27),
+    };
+    (kind << 28) | (content & 0x0fff_ffff)
+}
+
+// A word of a kind at an index, instead of the one there and before it.
+fn with_kind(all: Numbers, of_job: bool, place: usize, kind: u32, which: u32) -> Numbers {
+    let word = of_kind(kind, word_there(of_job, place), which);
+    inserted(instead(all, of_job, place, word, ANY), of_job, place, word)
 }
 
 // 18 places, the last past the end, 16 kinds and three words of each.
-pub fn every_place(of_job: bool) -> Numbers {
-    let mut all = reference::no_numbers();
+fn every_place(of_job: bool) -> Numbers {
+    let mut all = no_numbers();
     let mut i: u32 = 0;
     while i < 864 {
-        let next = of_kind(all, of_job, (i / 48) as usize, i / 3 % 16, i % 3);
+        let next = with_kind(all, of_job, (i / 48) as usize, i / 3 % 16, i % 3);
         all = next;
         i += 1;
     }
     all
+}
+
+fn group(of_job: bool, done: u32, places: u32) -> Numbers {
+    match done {
+        CUT => cuts(of_job),
+        EVERY => every_place(of_job),
+        _ => spoilt(of_job, places, done),
+    }
+}
+
+fn report_group(i: usize) {
+    if i < 14 {
+        let all = group(i < 7, DONE[i % 7], PLACES[i]);
+        report(name_at(&NAMES, i), all);
+    }
+}
+
+pub fn report_places() {
+    let mut i = 0;
+    while i < 14 {
+        report_group(i);
+        i += 1;
+    }
 }

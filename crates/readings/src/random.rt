@@ -1,38 +1,52 @@
 // Random files that both readers accept.
-use reference::next;
-use reference::number;
-use reference::put;
+use reference::trial::next;
 use std::num::wrapping_add_usize;
-ghost use Prim.Native.Nat.{_≤_, _<_};
+use testing::words::at;
+use testing::words::put;
 
-// A random number below another.
-pub fn draw(state: &mut u64, below: u32) -> u32
-    requires { ⌜ 1 ≤ below ⌝ }
-    ensures { λ r. ⌜ r < below ⌝ }
-{
+// A random number below another; below 0 it is 0.
+pub fn draw(state: &mut u64, below: u32) -> u32 {
     let x = next(*state);
     *state = x;
-    ((x >> 32) % 0x1_0000_0000) as u32 % below
+    if below == 0 {
+        return 0;
+    }
+    (x >> 32) as u32 % below
+}
+
+// A random one of so many numbers from another on.
+fn draw_from(state: &mut u64, first: u32, count: u32) -> u32 {
+    std::num::wrapping_add_u32(draw(state, count), first)
+}
+
+// Of the three kinds of targets: the first function and how many there are, the first comparison code of them and how many.
+const KINDS: [u32; 12] = [1, 5, 3, 13, 6, 16, 3, 9, 22, 6, 1, 2];
+
+// The target and the comparison code of a recipe for a comparison.
+fn comparison(state: &mut u64) -> u32 {
+    let row = (draw(state, 3) % 3 * 4) as usize;
+    let target = draw_from(state, at(&KINDS, row), at(&KINDS, row + 1));
+    (target << 18) | draw_from(state, at(&KINDS, row + 2), at(&KINDS, row + 3))
 }
 
 // The target and the outputs of a recipe for a function.
 fn outputs(state: &mut u64, function: u32) -> u32 {
     if 21 < function {
-        let which = draw(state, 3);
-        if which == 0 {
-            return ((draw(state, 5) + 1) << 18) | (draw(state, 13) + 3);
-        }
-        if which == 1 {
-            return ((draw(state, 16) + 6) << 18) | (draw(state, 9) + 3);
-        }
-        return ((draw(state, 6) + 22) << 18) | (draw(state, 2) + 1);
+        return comparison(state);
     }
-    let main = (draw(state, 2) + 1) << 8;
+    let main = draw_from(state, 1, 2) << 8;
     if 5 < function {
-        return ((draw(state, 21) + 1) << 18) | main;
+        return (draw_from(state, 1, 21) << 18) | main;
     }
-    let cout = (draw(state, 2) + 1) << 6;
-    ((draw(state, 5) + 1) << 18) | main | cout | 32
+    let cout = draw_from(state, 1, 2) << 6;
+    (draw_from(state, 1, 5) << 18) | main | cout | 32
+}
+
+fn wired(state: &mut u64, function: u32) -> u32 {
+    let left = draw(state, 6) << 15;
+    let right = draw(state, 6) << 12;
+    let carry = draw(state, 4) << 10;
+    left | right | carry | outputs(state, function)
 }
 
 // A word of a kind for a function; a recipe passes 3, 5 and 6.
@@ -45,13 +59,10 @@ pub fn random_word(state: &mut u64, kind: u32, function: u32) -> u32 {
     if (5 < function) & (function < 22) & scratch {
         return head | draw(state, 16);
     }
-    let left = draw(state, 6) << 15;
-    let right = draw(state, 6) << 12;
-    let carry = draw(state, 4) << 10;
-    head | left | right | carry | outputs(state, function)
+    head | wired(state, function)
 }
 
-// A word of a kind for a function, one time in one to eight; the place after it.
+// A word of a kind for a function, one time in one to eight; the index after it.
 fn maybe(
     words: &mut [u32],
     place: usize,
@@ -67,7 +78,7 @@ fn maybe(
     place
 }
 
-// Words of one kind for some of the functions, in order; the place after them.
+// Words of one kind for some of the functions, in order; the index after them.
 fn random_table(words: &mut [u32], from: usize, kind: u32, state: &mut u64) -> usize {
     let odds = draw(state, 8);
     let mut place = from;
@@ -81,23 +92,22 @@ fn random_table(words: &mut [u32], from: usize, kind: u32, state: &mut u64) -> u
 
 // More than 12 rules now and then.
 fn random_rules(words: &mut [u32], from: usize, state: &mut u64) -> usize {
-    let many = number(draw(state, 50) == 0) % 2;
-    let count = draw(state, 12 + 501 * many);
-    let mut place = from;
+    let most = if draw(state, 50) == 0 { 513 } else { 12 };
+    let count = draw(state, most) as usize;
     let mut i = 0;
     while i < count {
-        let function = draw(state, 27) + 1;
-        put(words, place, random_word(state, 5, function));
-        place = wrapping_add_usize(place, 1);
+        let function = draw_from(state, 1, 27);
+        let rule = random_word(state, 5, function);
+        put(words, wrapping_add_usize(from, i), rule);
         i += 1;
     }
-    place
+    wrapping_add_usize(from, count)
 }
 
 // A job's words after its header.
 fn random_job(words: &mut [u32], state: &mut u64) -> usize {
     put(words, 1, 0x2000_0000 | draw(state, 0x0100_0000));
-    put(words, 2, 0x3000_0000 | (draw(state, 27) + 1));
+    put(words, 2, 0x3000_0000 | draw_from(state, 1, 27));
     let some = random_table(words, 2, 3, state);
     let sources = if some == 2 { 3 } else { some };
     let targets = random_table(words, sources, 4, state);
@@ -105,10 +115,14 @@ fn random_job(words: &mut [u32], state: &mut u64) -> usize {
 }
 
 pub fn random_file(of_job: bool, words: &mut [u32], state: &mut u64) -> usize {
-    put(words, 0, 0x1000_0000 | (draw(state, 64) + 1));
+    put(words, 0, 0x1000_0000 | draw_from(state, 1, 64));
     if of_job {
         return random_job(words, state);
     }
+    random_mapping(words, state)
+}
+
+fn random_mapping(words: &mut [u32], state: &mut u64) -> usize {
     let end = random_table(words, 1, 6, state);
     put(words, end, 0x7000_0000 | draw(state, 0x1000_0000));
     wrapping_add_usize(end, 1)

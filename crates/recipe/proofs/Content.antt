@@ -1,16 +1,11 @@
--- A rule and the binding made of it differ in their kind alone: words with the same content have the same recipe and the same refusals.
-use mathlib.Core.Path.{_≡_, refl}
-use mathlib.Core.Bool.{false, not}
+-- A rule and the binding made of it differ in their kind alone: words with the same content have the same fields.
+use mathlib.Core.Path.{_≡_}
 use Prim.Native.Nat.{ℕ}
 use native.Mathlib.Omega.{arith}
 use lib.Dec.{eqb}
-use Rattle.words.specs.Choice.{if_then_else_}
 use Rattle.words.specs.Field.{contentOf}
-use Rattle.words.specs.Paper.{noRefusal}
 use Rattle.words.proofs.Fields.{same-field}
-use Rattle.alu.specs.Evaluate.{isFunction}
 use Rattle.recipe.specs.Fields.{sourceOf, targetOf, SCRATCH, fromScratch, vectorOf, fieldsOf}
-use Rattle.recipe.specs.Layout.{scratchLaidOut, targetLaidOut, laidOut, readsDriven, readsUndriven, showsSource, showsOther, recipeFault}
 
 module _ (v w : ℕ) (e : contentOf v ≡ contentOf w) where
   pub same-source : sourceOf v ≡ sourceOf w
@@ -39,24 +34,3 @@ module _ (v w : ℕ) (e : contentOf v ≡ contentOf w) where
 
   pub same-from-scratch : fromScratch v ≡ fromScratch w
   same-from-scratch = λ i. eqb (same-target i) SCRATCH
-
-  same-scratch : scratchLaidOut v ≡ scratchLaidOut w
-  unfolding scratchLaidOut
-  same-scratch = rw (same-source, same-field v w 4 14 e (omega arith)) refl
-
-  same-layout : laidOut v ≡ laidOut w
-  unfolding laidOut
-  same-layout =
-      λ i.
-      if not (isFunction (same-source i)) then false
-      else if same-from-scratch i then same-scratch i
-      else targetLaidOut (same-fields i)
-
-  pub same-fault : recipeFault v ≡ recipeFault w
-  unfolding recipeFault readsUndriven showsOther
-  same-fault =
-      λ i.
-      if not (same-layout i) then 3
-      else if (if same-from-scratch i then false else not (readsDriven (same-fields i))) then 5
-      else if (if same-from-scratch i then false else not (showsSource (same-fields i))) then 6
-      else noRefusal

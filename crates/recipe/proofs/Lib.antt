@@ -1,3 +1,3 @@
 pub mod RoundTrip
-pub mod Faults
 pub mod Content
+pub mod Packing

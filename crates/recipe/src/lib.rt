@@ -1,10 +1,4 @@
-// Recipe words: document 01, "Words". Shifts and masks take a word apart and build it; refusals 3, 5 and 6 of its fields.
-mod layout;
-
-pub use layout::laid_out;
-pub use layout::reads_undriven;
-pub use layout::recipe_fault;
-pub use layout::shows_other;
+// Recipe words: document 01, "Words". Shifts and masks take a word apart and build it.
 ghost use mathlib.Core.Path.{_≡_};
 ghost use Rattle.recipe.specs.Asked as Q;
 ghost use Rattle.recipe.specs.Fields as F;

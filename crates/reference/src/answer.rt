@@ -1,14 +1,4 @@
 // Answers as plain numbers, so that a library's answer is taken apart once and compared as these are.
-use crate::places::number;
-
-// Operands at which a recipe is wrong, its source function and the lowest port that differs there.
-pub struct Witness {
-    pub function: u32,
-    pub port: u32,
-    pub left: u64,
-    pub right: u64,
-    pub carry: u32,
-}
 
 // What an answer is about: a bare word, a job by itself, a mapping by itself, a mapping as a job's; or what is given with no refusal:
 // nothing, a count, words.
@@ -26,12 +16,11 @@ pub const PRICED: u32 = 5;
 
 pub const WRITTEN: u32 = 6;
 
-// The number of a refusal, 0 for none, and its place; of no refusal the count or the size that is given. A witness comes with 10.
+// The number of a refusal, 0 for none, and its place; of no refusal the count or the size that is given.
 pub struct Answer {
     pub form: u32,
     pub number: u32,
     pub place: usize,
-    pub witness: Witness,
 }
 
 pub fn answered(form: u32, number: u32, place: usize) -> Answer {
@@ -39,33 +28,18 @@ pub fn answered(form: u32, number: u32, place: usize) -> Answer {
         form,
         number,
         place,
-        witness: Witness {
-            function: 0,
-            port: 0,
-            left: 0,
-            right: 0,
-            carry: 0,
-        },
     }
 }
 
-// Refusal 10, its place the function.
-pub fn wrong(form: u32, function: u32, port: u32, left: u64, right: u64, carry: bool) -> Answer {
-    Answer {
-        form,
-        number: 10,
-        place: function as usize,
-        witness: Witness {
-            function,
-            port,
-            left,
-            right,
-            carry: number(carry),
-        },
-    }
+// What refusal 10 counts as where its operands do not show that the recipe is wrong; no answer that is expected has this number.
+pub const NOT_SHOWN: u32 = 99;
+
+// Refusal 10, its place the function. The operands are the program's choice, so all that is kept of them is whether they show it.
+pub fn wrong(form: u32, function: u32, shown: bool) -> Answer {
+    let number = if shown { 10 } else { NOT_SHOWN };
+    answered(form, number, function as usize)
 }
 
-// But for the witness, which is the program's choice.
 pub fn same_answer(one: Answer, other: Answer) -> bool {
     (one.form == other.form) & (one.number == other.number) & (one.place == other.place)
 }

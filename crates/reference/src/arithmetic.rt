@@ -1,6 +1,6 @@
 // Table 1, by carries that ripple from the lowest place to the top. OVF is 1 where the carry into the top place is not the carry
 // out of it.
-use crate::Shown;
+use crate::evaluator::Shown;
 use crate::places::bit;
 use crate::places::number;
 use crate::places::with_bit;

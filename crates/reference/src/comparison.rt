@@ -1,6 +1,6 @@
 // Table 3, in two's complement: from the top down, the first place where the words differ decides. The word with the 1 there is the
 // greater, but at the top place, whose bit counts as negative, the less.
-use crate::Shown;
+use crate::evaluator::Shown;
 use crate::places::bit;
 use crate::places::number;
 

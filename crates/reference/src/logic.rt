@@ -1,5 +1,5 @@
 // Table 2, a gate at each place. Its LINHI, which the scan prints without the bar, is as document 01 has it.
-use crate::Shown;
+use crate::evaluator::Shown;
 use crate::places::bit;
 use crate::places::with_bit;
 

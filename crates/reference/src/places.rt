@@ -14,7 +14,7 @@ pub fn with_bit(word: u64, place: u32, b: bool) -> u64 {
 
 // A bit as a number.
 pub fn number(b: bool) -> u32 {
-    if b { 1 } else { 0 }
+    b as u32
 }
 
 // Whether a word has n bits: halved n times, nothing is left of it.

@@ -1,7 +1,7 @@
 // What a recipe word shows, place by place. The word is taken apart by division from its low end, as a number in mixed bases.
-use crate::Shown;
-use crate::evaluate;
-use crate::first_out_of_range;
+use crate::evaluator::Shown;
+use crate::evaluator::evaluate;
+use crate::evaluator::first_out_of_range;
 use crate::places::bit;
 use crate::places::number;
 use crate::places::with_bit;
@@ -140,6 +140,16 @@ fn outputs(fields: Fields, n: u32, target: Shown) -> Shown {
     }
 }
 
+fn carry_in(code: u32, carry: u32) -> u32 {
+    match code {
+        0 => 0,
+        1 => 1,
+        // SICIN, NOT SICIN
+        2 => carry,
+        _ => number(carry == 0),
+    }
+}
+
 // The four ports; zeros where a value is out of range.
 pub fn recipe_shows(word: u32, width: u32, left: u64, right: u64, carry: u32) -> Shown {
     let fields = fields_of(word);
@@ -154,32 +164,30 @@ pub fn recipe_shows(word: u32, width: u32, left: u64, right: u64, carry: u32) ->
             o1: 0,
         };
     }
-    let code = fields.carry;
-    let into = match code {
-        0 => false,
-        1 => true,
-        // SICIN, NOT SICIN
-        2 => carry == 1,
-        _ => carry == 0,
-    };
     let target = evaluate(
         fields.target,
         width,
         at_each_place(wire(fields.left), width, left, right),
         at_each_place(wire(fields.right), width, left, right),
-        number(into),
+        carry_in(fields.carry, carry),
     );
     outputs(fields, width, target)
 }
 
 // The lowest port at which a recipe does not show what its source function does: 0 O0, 1 OCOUT, 2 OVF, 3 O1, or 4 where there is none.
-// Of operands out of range nothing is shown, so that they would bear out anything: 5.
+// Of a function or operands out of range nothing is shown, so that they would bear out anything: 5.
 pub fn first_difference(word: u32, width: u32, left: u64, right: u64, carry: u32) -> u32 {
-    if first_out_of_range(1, width, left, right, carry) < 5 {
+    let function = fields_of(word).source;
+    if first_out_of_range(function, width, left, right, carry) < 5 {
         return 5;
     }
-    let recipe = recipe_shows(word, width, left, right, carry);
-    let source = evaluate(fields_of(word).source, width, left, right, carry);
+    first_differing(
+        recipe_shows(word, width, left, right, carry),
+        evaluate(function, width, left, right, carry),
+    )
+}
+
+fn first_differing(recipe: Shown, source: Shown) -> u32 {
     if recipe.o0 != source.o0 {
         return 0;
     }

@@ -1,7 +1,5 @@
 // A recipe tried against its source function: at every left, right and carry of a small width, above at corner operands and random
 // ones.
-use crate::answer::Witness;
-use crate::first_out_of_range;
 use crate::places::number;
 use crate::recipe::fields_of;
 use crate::recipe::first_difference;
@@ -114,11 +112,20 @@ pub fn is_right(word: u32, n: u32) -> bool {
     agrees_at_many(word, n)
 }
 
+// What is said of a wrong recipe: its source function, the lowest port that differs, and operands at which it does.
+pub struct Witness {
+    pub function: u32,
+    pub port: u32,
+    pub left: u64,
+    pub right: u64,
+    pub carry: bool,
+}
+
 // Whether a witness shows that a recipe is wrong: of the word's source function, at operands in range, with the lowest port that differs
 // there.
 pub fn bears_out(word: u32, n: u32, w: Witness) -> bool {
+    let carry = number(w.carry);
     (w.function == fields_of(word).source)
-        & (first_out_of_range(w.function, n, w.left, w.right, w.carry) == 5)
         & (w.port < 4)
-        & (first_difference(word, n, w.left, w.right, w.carry) == w.port)
+        & (first_difference(word, n, w.left, w.right, carry) == w.port)
 }

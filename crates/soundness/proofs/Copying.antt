@@ -6,7 +6,7 @@ use native.Mathlib.Omega.{arith}
 use lib.ListN.{length, take, drop, set, replicate, length-append}
 use lib.Seq.{sets, sets-eq, length-sets, length-take-le, take-at}
 use Rattle.words.proofs.Copies.{sets-append}
-use Rattle.reader.specs.Limits.{mostSources, mostTargets}
+use Rattle.sequence.specs.Limits.{mostSources, mostTargets}
 
 -- ---- a job without rules
 

@@ -9,7 +9,7 @@ use mir.Val.{Val}
 use denote.Laws.{Is}
 use denote.Struct.Declared.{row}
 use Rattle.words.proofs.Lists.{part-from}
-use Rattle.reader.specs.Limits.{mostSources, mostTargets}
+use Rattle.sequence.specs.Limits.{mostSources, mostTargets}
 use Rattle.soundness.specs.Shape.{TablesShaped}
 use Rattle.soundness.specs.Sound.{sourcesOn, targetsOn}
 use Rattle.soundness.specs.declared.Tables.{Tables}

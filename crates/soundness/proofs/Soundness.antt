@@ -11,22 +11,22 @@ use borrow.Author.Tests.{eq-eqb, ne-eqb, lt-ltb, le-ltb, le-leb, ltb-false, not-
 use Rattle.words.specs.Choice.{if_then_else_}
 use Rattle.words.specs.Field.{kindOf, sourceFunction, wordOf}
 use Rattle.words.specs.Kinds.{HEADER, RULE}
-use Rattle.words.specs.declared.Prices.{Prices}
 use Rattle.words.proofs.Choices.{either}
 use Rattle.words.proofs.Fields.{laid, onto}
 use Rattle.words.proofs.Lists.{drop-next, part-from}
-use Rattle.alu.specs.Evaluate.{isWidth}
-use Rattle.alu.specs.Asked.{Width}
+use Rattle.alu.specs.Range.{isWidth}
+use Rattle.bits.specs.Asked.{Width}
 use Rattle.alu.proofs.Shown.{width-of}
 use Rattle.recipe.specs.Fields.{sourceOf}
-use Rattle.recipe.specs.Layout.{recipeFault}
+use Rattle.layout.specs.Layout.{recipeFault}
 use Rattle.binding.specs.Right.{isRight}
-use Rattle.reader.specs.Limits.{mostSources, mostTargets}
+use Rattle.sequence.specs.Limits.{mostSources, mostTargets}
 use Rattle.reader.specs.Job.{jobOf}
 use Rattle.reader.specs.declared.Job.{Job}
 use Rattle.reader.specs.declared.JobRead.{JobRead}
 use Rattle.reader.specs.declared.JobRead.the-variants.{Accepted}
-use Rattle.table.specs.Table.{hasTarget, claimIn}
+use Rattle.table.specs.Table.{hasTarget}
+use Rattle.claims.specs.Claim.{claimIn}
 use Rattle.soundness.specs.Sound.{sourcesOn, targetsOn, pricesWord, tableWords, holds, tablesSound, empty, ruleFault, bindable, entrySound, boundSound, isSound}
 use Rattle.soundness.specs.declared.Tables.{Tables}
 use Rattle.soundness.specs.Shape.{TablesShaped}
@@ -255,12 +255,15 @@ module _ (b : Tables) (p : Bool) (ep : p ≡ tablesSound b) (hp : not p ≡ fals
   pub tables-targets : b .ntargets ≤ mostTargets
   tables-targets = tables-counted .few-targets
 
+pub sound-tables : (b : Tables) (bound : List ℕ) → isSound b bound ≡ true → tablesSound b ≡ true
+unfolding isSound
+sound-tables b bound =
+    either (λ x. x ≡ true → tablesSound b ≡ true) (not (tablesSound b)) (λ _ e. absurd (false≢true e))
+    (λ p _. not-false (tablesSound b) p)
+
 module _ (b : Tables) (bound : List ℕ) (s : isSound b bound ≡ true) where
   pub sound-width : Width (b .width)
   sound-width = sound-holds b bound s .tables .width
 
   pub sound-sources : b .nsources ≤ mostSources
   sound-sources = sound-holds b bound s .tables .few-sources
-
-  pub sound-targets : b .ntargets ≤ mostTargets
-  sound-targets = sound-holds b bound s .tables .few-targets

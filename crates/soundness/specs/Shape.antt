@@ -2,7 +2,7 @@
 use mathlib.Core.Path.{_≡_}
 use Prim.Native.Nat.{ℕ, _≤_}
 use lib.ListN.{length}
-use Rattle.reader.specs.Limits.{mostSources, mostTargets}
+use Rattle.sequence.specs.Limits.{mostSources, mostTargets}
 use Rattle.soundness.specs.declared.Tables.{Tables}
 
 pub record TablesShaped (t : Tables) : Type 0 where

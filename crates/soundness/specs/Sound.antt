@@ -10,15 +10,16 @@ use Rattle.words.specs.Field.{kindOf, sourceFunction, wordOf}
 use Rattle.words.specs.Kinds.{HEADER, PRICES, RULE}
 use Rattle.words.specs.Paper.{noRefusal}
 use Rattle.words.specs.declared.Prices.{Prices}
-use Rattle.alu.specs.Evaluate.{isWidth}
+use Rattle.alu.specs.Range.{isWidth}
 use Rattle.recipe.specs.Fields.{sourceOf}
-use Rattle.recipe.specs.Layout.{recipeFault}
+use Rattle.layout.specs.Layout.{recipeFault}
 use Rattle.binding.specs.Right.{isRight}
-use Rattle.reader.specs.Limits.{mostSources, mostTargets}
+use Rattle.sequence.specs.Limits.{mostSources, mostTargets}
 use Rattle.reader.specs.Job.{jobOf}
 use Rattle.reader.specs.declared.JobRead.{JobRead}
 use Rattle.reader.specs.declared.JobRead.the-variants as read
-use Rattle.table.specs.Table.{hasTarget, claimIn}
+use Rattle.table.specs.Table.{hasTarget}
+use Rattle.claims.specs.Claim.{claimIn}
 use Rattle.soundness.specs.declared.Tables.{Tables}
 
 -- ---- entries

@@ -1,14 +1,14 @@
 // What a sound bench is: values in range, tables that a job could hold, and in each source's entry nothing or a right recipe of it.
 mod reading;
 
-use reader::MOST_SOURCES;
-use reader::MOST_TARGETS;
 pub use reading::copy;
+use sequence::MOST_SOURCES;
+use sequence::MOST_TARGETS;
 use words::Prices;
 ghost use mathlib.Core.Path.{_≡_};
 ghost use Prim.Native.Nat.{_≤_};
 ghost use lib.ListN.{length};
-ghost use Rattle.alu.specs.Asked as Q;
+ghost use Rattle.bits.specs.Asked as Q;
 ghost use Rattle.soundness.specs.Sound as S;
 
 // What stands in an entry to which nothing is bound, and in those of a table past its words.
@@ -45,7 +45,7 @@ pub fn rule_fault(word: u32) -> u32
     if words::kind_of(word) != words::RULE {
         return 2;
     }
-    recipe::recipe_fault(word)
+    layout::recipe_fault(word)
 }
 
 // Whether a word may be bound to a source: a right rule of it, from scratch or from a target of the table.
@@ -62,7 +62,7 @@ fn bindable(n: u32, sources: &[u32], targets: &[u32], source: u32, word: u32) ->
     if !table::has_target(targets, word) {
         return false;
     }
-    table::is_right(sources, targets, word, n)
+    claims::is_right(sources, targets, word, n)
 }
 
 fn entry_sound(n: u32, sources: &[u32], targets: &[u32], source: u32, word: u32) -> bool

@@ -1,9 +1,9 @@
 // Tables that a job could hold: the reader is asked.
 use crate::Tables;
 use reader::JobRead;
-use reader::MOST_SOURCES;
-use reader::MOST_TARGETS;
 use reader::SOURCES_START;
+use sequence::MOST_SOURCES;
+use sequence::MOST_TARGETS;
 use words::Prices;
 ghost use mathlib.Core.Path.{_≡_};
 ghost use mathlib.Core.List.{_∷_, _++_};
@@ -11,7 +11,7 @@ ghost use Prim.Native.Nat.{_+_, _≤_};
 ghost use lib.ListN.{length};
 ghost use lib.Seq.{sets};
 ghost use Rattle.reader.specs.Job as J;
-ghost use Rattle.reader.specs.Limits.{mostSources, mostTargets};
+ghost use Rattle.sequence.specs.Limits.{mostSources, mostTargets};
 ghost use Rattle.soundness.specs.Sound as S;
 
 // The most words of a job without rules.

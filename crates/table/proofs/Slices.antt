@@ -5,7 +5,7 @@ use Prim.Native.Nat.{ℕ, _+_, _-_, _≤_}
 use native.Mathlib.Omega.{arith}
 use lib.ListN.{length, take, drop}
 use Rattle.reader.specs.Job.{WellFormedJob}
-use Rattle.reader.specs.Limits.{sourcesStart, targetsStart, rulesStart, bindingsStart}
+use Rattle.reader.specs.Starts.{sourcesStart, targetsStart, rulesStart, bindingsStart}
 use Rattle.reader.specs.Mapping.{WellFormedMapping}
 use Rattle.reader.specs.declared.Job.{Job}
 use Rattle.reader.specs.declared.Mapping.{Mapping}

@@ -4,7 +4,7 @@ use Prim.Native.Nat.{ℕ}
 use mathlib.Core.List.{List}
 use lib.ListN.{take, drop}
 use Rattle.words.specs.declared.Prices.{Prices}
-use Rattle.reader.specs.Limits.{sourcesStart, targetsStart, rulesStart, bindingsStart}
+use Rattle.reader.specs.Starts.{sourcesStart, targetsStart, rulesStart, bindingsStart}
 use Rattle.reader.specs.declared.Job.{Job}
 use Rattle.reader.specs.declared.Mapping.{Mapping}
 

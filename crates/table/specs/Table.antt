@@ -1,4 +1,4 @@
--- What stands in a job's tables of source and target words, and what a rule or a binding claims under them.
+-- What stands in a job's tables of source and target words.
 use Prim.Native.Nat.{ℕ}
 use mathlib.Core.Bool.{Bool, true, false, not}
 use mathlib.Core.List.{List, [], _∷_}
@@ -6,8 +6,6 @@ use lib.Dec.{eqb}
 use Rattle.words.specs.Choice.{if_then_else_}
 use Rattle.words.specs.Field.{sourceFunction, targetFunction}
 use Rattle.recipe.specs.Fields.{sourceOf, targetOf, fromScratch}
-use Rattle.binding.specs.Right.{claimOf}
-use Rattle.binding.specs.declared.Claim.{Claim}
 
 -- a function is among the sources
 unfoldable pub listsSource : List ℕ → ℕ → Bool
@@ -26,8 +24,3 @@ hasTarget targets w = if fromScratch w then true else listsTarget targets (targe
 -- not "8. Source or target function not in the job"
 unfoldable pub inJob : List ℕ → List ℕ → ℕ → Bool
 inJob sources targets w = if not (listsSource sources (sourceOf w)) then false else hasTarget targets w
-
--- The side and the recipe that are compared to judge a rule or a binding of a job with these source and target words. Such a word
--- holds a function and nothing else, so neither table has a say in it.
-abbrev pub claimIn : List ℕ → List ℕ → ℕ → Claim
-claimIn sources targets w = claimOf w

@@ -1,3 +1,2 @@
 pub mod Putting
-pub mod Lines
-pub mod Hexadecimal
+pub mod Joined

@@ -1,92 +1,113 @@
-// Lines that the programs print, put into lent bytes.
-pub mod hex;
-mod puts;
-
-pub use puts::put;
-use words::Refusal;
-use words::Witness;
+// Bytes, names and numbers put into lent bytes, from a position on.
+ghost use mathlib.Core.Path.{_≡_};
 ghost use Prim.Native.Nat.{_+_, _≤_};
 ghost use lib.ListN.{length};
 ghost use Rattle.text.specs.Text as T;
 
-// The most bytes of a line.
-pub const MOST_LINE_BYTES: usize = 160;
-
-// A binding: its source, its target or LV, and its word.
-pub fn binding_line(word: u32, out: &mut [u8]) -> usize
-    requires { ⌜ T.mostLineBytes ≤ length (now out) ⌝ }
-    ensures text { λ r. ⌜ T.Puts (now (out .entry)) 0 (T.bindingLine word) (now (out .exit)) r ⌝ }
+// Puts bytes, and answers the position after them.
+pub fn put(bytes: &[u8], out: &mut [u8], at: usize) -> usize
+    requires { ⌜ at + length (now bytes) ≤ length (now out) ⌝ }
+    ensures text { λ r. ⌜ T.Puts (now (out .entry)) at (now (bytes .entry)) (now (out .exit)) r ⌝ }
 {
-    let source = puts::put_name(recipe::source_of(word), out, 0);
-    let gap = puts::put(b" ", out, source);
-    let target = puts::put_name(recipe::target_of(word), out, gap);
-    let space = puts::put(b" ", out, target);
-    let digits = puts::put_digits(word as u64, 16, 8, out, space);
-    puts::put(b"\n", out, digits)
-}
-
-// The glue count.
-pub fn glue_line(count: u32, out: &mut [u8]) -> usize
-    requires { ⌜ T.mostLineBytes ≤ length (now out) ⌝ }
-    ensures text { λ r. ⌜ T.Puts (now (out .entry)) 0 (T.glueLine count) (now (out .exit)) r ⌝ }
-{
-    let end = puts::put_labelled(b"GLUE ", count as u64, out, 0);
-    puts::put(b"\n", out, end)
-}
-
-// A refusal's number and place.
-fn put_refusal(refusal: Refusal, out: &mut [u8]) -> usize
-    requires { ⌜ T.mostLineBytes ≤ length (now out) ⌝ }
-    ensures short { λ r. ⌜ r ≤ 49 ⌝ }
-    ensures text { λ r. ⌜ T.Puts (now (out .entry)) 0 (T.refusalText refusal) (now (out .exit)) r ⌝ }
-{
-    let end = puts::put_labelled(b"REFUSED ", refusal.number as u64, out, 0);
-    puts::put_labelled(b" ", refusal.place as u64, out, end)
-}
-
-// A refusal.
-pub fn refused_line(refusal: Refusal, out: &mut [u8]) -> usize
-    requires { ⌜ T.mostLineBytes ≤ length (now out) ⌝ }
-    ensures text { λ r. ⌜ T.Puts (now (out .entry)) 0 (T.refusedLine refusal) (now (out .exit)) r ⌝ }
-{
-    let end = put_refusal(refusal, out);
-    puts::put(b"\n", out, end)
-}
-
-// A refusal of the job or of the mapping.
-pub fn refused_file_line(refusal: Refusal, mapping: bool, out: &mut [u8]) -> usize
-    requires { ⌜ T.mostLineBytes ≤ length (now out) ⌝ }
-    ensures text { λ r. ⌜ T.Puts (now (out .entry)) 0 (T.refusedFileLine refusal mapping) (now (out .exit)) r ⌝ }
-{
-    let end = put_refusal(refusal, out);
-    if mapping {
-        return puts::put(b" MAPPING\n", out, end);
+    let mut i = 0;
+    while i < bytes.len() {
+        out[at + i] = bytes[i];
+        i += 1;
     }
-    puts::put(b" JOB\n", out, end)
+    at + i
 }
 
-// The port, the operands and the carry at which a recipe differs from its source function.
-fn put_witness(witness: Witness, out: &mut [u8], at: usize) -> usize
-    requires { ⌜ at + 106 ≤ length (now out) ⌝ }
-    ensures short { λ r. ⌜ r ≤ at + 106 ⌝ }
-    ensures text { λ r. ⌜ T.Puts (now (out .entry)) at (T.witnessText witness) (now (out .exit)) r ⌝ }
+// Puts what stands before the first space.
+fn put_trimmed(bytes: &[u8], out: &mut [u8], at: usize) -> usize
+    requires { ⌜ at + length (now bytes) ≤ length (now out) ⌝ }
+    ensures text { λ r. ⌜ T.Puts (now (out .entry)) at (T.trimmed (now (bytes .entry))) (now (out .exit)) r ⌝ }
 {
-    let port = puts::put_labelled(b" PORT ", witness.port as u64, out, at);
-    let left = puts::put_labelled(b" LEFT ", witness.left, out, port);
-    let right = puts::put_labelled(b" RIGHT ", witness.right, out, left);
-    puts::put_labelled(b" CARRY ", witness.carry as u64, out, right)
+    let mut i = 0;
+    while i < bytes.len() {
+        let byte = bytes[i];
+        if byte == 32 {
+            return at + i;
+        }
+        out[at + i] = byte;
+        i += 1;
+    }
+    at + i
 }
 
-// A wrong recipe: where it differs from its source function.
-pub fn wrong_line(witness: Witness, out: &mut [u8]) -> usize
-    requires { ⌜ T.mostLineBytes ≤ length (now out) ⌝ }
-    ensures text { λ r. ⌜ T.Puts (now (out .entry)) 0 (T.wrongLine witness) (now (out .exit)) r ⌝ }
+// The names of the functions, five bytes each; LV stands for 0.
+const NAMES: [u8; 140] =
+    *b"LV   ADD  SUB  RSUB INC  DEC  ZERO ONE  AND  NAND OR   NOR  XOR  XNOR LID  RID  LNOT RNOT LINHIRINHILIMPLRIMPLEQ   NEQ  GT   LT   GEQ  LEQ  ";
+
+// Puts the name of a function; there is none for a number above the last.
+pub fn put_name(function: u32, out: &mut [u8], at: usize) -> usize
+    requires { ⌜ at + 5 ≤ length (now out) ⌝ }
+    ensures short { λ r. ⌜ r ≤ at + 5 ⌝ }
+    ensures text { λ r. ⌜ T.Puts (now (out .entry)) at (T.nameOf function) (now (out .exit)) r ⌝ }
 {
-    let refusal = Refusal {
-        number: 10,
-        place: witness.function as usize,
-    };
-    let end = put_refusal(refusal, out);
-    let values = put_witness(witness, out, end);
-    puts::put(b"\n", out, values)
+    if alu::FUNCTIONS < function {
+        return at;
+    }
+    let start = 5 * (function as usize);
+    put_trimmed(&NAMES[start..start + 5], out, at)
+}
+
+fn glyph(digit: u64) -> u8
+    requires { ⌜ digit ≤ 15 ⌝ }
+    ensures { λ r. ⌜ r ≡ T.glyph digit ⌝ }
+{
+    if digit < 10 {
+        return 48 + digit as u8;
+    }
+    55 + digit as u8
+}
+
+// Puts the last k digits of a number in a base, the lowest first.
+pub fn put_digits(n: u64, base: u64, k: usize, out: &mut [u8], at: usize) -> usize
+    requires { ⌜ (at + k ≤ length (now out)) × (2 ≤ base) × (base ≤ 16) ⌝ }
+    ensures short { λ r. ⌜ r ≡ at + k ⌝ }
+    ensures text { λ r. ⌜ T.Puts (now (out .entry)) at (T.digits base k n) (now (out .exit)) r ⌝ }
+{
+    let mut rest = n;
+    let mut i = k;
+    while 0 < i {
+        i -= 1;
+        out[at + i] = glyph(rest % base);
+        rest = rest / base;
+    }
+    at + k
+}
+
+// How many decimal digits a number has.
+fn digit_count(n: u64) -> usize
+    ensures { λ r. ⌜ (r ≡ T.digitsIn 20 n) × (r ≤ 20) ⌝ }
+{
+    let mut rest = n;
+    let mut i = 0;
+    while i < 20 {
+        if rest < 10 {
+            return i + 1;
+        }
+        rest = rest / 10;
+        i += 1;
+    }
+    i
+}
+
+// Puts a number in decimal.
+fn put_decimal(n: u64, out: &mut [u8], at: usize) -> usize
+    requires { ⌜ at + 20 ≤ length (now out) ⌝ }
+    ensures short { λ r. ⌜ r ≤ at + 20 ⌝ }
+    ensures text { λ r. ⌜ T.Puts (now (out .entry)) at (T.decimal n) (now (out .exit)) r ⌝ }
+{
+    put_digits(n, 10, digit_count(n), out, at)
+}
+
+// Puts a label, and a number in decimal after it.
+pub fn put_labelled(label: &[u8], n: u64, out: &mut [u8], at: usize) -> usize
+    requires { ⌜ at + length (now label) + 20 ≤ length (now out) ⌝ }
+    ensures short { λ r. ⌜ r ≤ at + length (now (label .entry)) + 20 ⌝ }
+    ensures text { λ r. ⌜ T.Puts (now (out .entry)) at (T.labelled (now (label .entry)) n) (now (out .exit)) r ⌝ }
+{
+    let end = put(label, out, at);
+    put_decimal(n, out, end)
 }

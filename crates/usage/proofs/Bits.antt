@@ -9,7 +9,7 @@ use lib.Bits.{bitOr, or-shr, or-mod}
 use lib.Dec.{eqb, eqb·zero-suc, eqb·suc-zero, eqb·suc-suc}
 use lib.Pow.{shr-shr, shl-exact}
 use Rattle.words.specs.Field.{field}
-use Rattle.alu.specs.Bits.{bit}
+use Rattle.bits.specs.Bits.{bit}
 
 pub or-bit : (a b k : ℕ) → bit (bitOr a b) k ≡ bit a k || bit b k
 unfolding bit

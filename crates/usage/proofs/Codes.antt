@@ -9,7 +9,7 @@ use lib.Pow.{pow-add, pow-lt}
 use Rattle.words.specs.Choice.{if_then_else_}
 use Rattle.words.specs.Field.{field}
 use Rattle.words.proofs.Fields.{field-lt, onto}
-use Rattle.alu.specs.Bits.{bit}
+use Rattle.bits.specs.Bits.{bit}
 use Rattle.recipe.specs.Fields.{fromScratch, vectorOf, fieldsOf}
 use Rattle.recipe.specs.declared.Fields.{Fields}
 use Rattle.usage.specs.Sets.{codeBit, targetUsage, scratchUsage, usageOf}

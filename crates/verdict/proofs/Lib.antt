@@ -1,1 +1,2 @@
 pub mod Verdicting
+pub mod Found

@@ -12,18 +12,18 @@ use Rattle.words.specs.Paper.{refusal}
 use Rattle.words.specs.declared.Refusal.{Refusal}
 use Rattle.words.specs.declared.Witness.{Witness}
 use Rattle.words.proofs.Choices.{beq-true, beq-refl, false-of}
-use Rattle.alu.specs.Evaluate.{isWidth}
-use Rattle.alu.specs.Asked.{Width, Operands}
-use Rattle.alu.specs.declared.Ports.{Ports}
-use Rattle.recipe.specs.Layout.{recipeFault}
+use Rattle.alu.specs.Range.{isWidth}
+use Rattle.bits.specs.Asked.{Width, Operands}
+use Rattle.bits.specs.declared.Ports.{Ports}
+use Rattle.layout.specs.Layout.{recipeFault}
 use Rattle.binding.specs.Binding.{sideShows, shows}
 use Rattle.binding.specs.Right.{Right, isRight, claimOf}
 use Rattle.binding.specs.declared.Claim.{Claim}
 use Rattle.binding.proofs.Tests.{right-test}
-use Rattle.equivalence.specs.Search.{Found}
+use Rattle.verdict.specs.Search.{Found}
 use Rattle.verdict.specs.Verdicts.{lowestPort, noPort, Says, Sentence, Refuses, Decides, judgeOf, Passes, Judged}
-use Rattle.equivalence.specs.declared.search.Outcome.{Outcome}
-use Rattle.equivalence.specs.declared.search.Outcome.the-variants.{Holds, Fails}
+use Rattle.verdict.specs.declared.search.Outcome.{Outcome}
+use Rattle.verdict.specs.declared.search.Outcome.the-variants.{Holds, Fails}
 use Rattle.verdict.specs.declared.Verdict.{Verdict}
 use Rattle.verdict.specs.declared.Verdict.the-variants.{Right as IsRight, Wrong}
 use Rattle.verdict.specs.declared.Judgement.{Judgement}

@@ -10,10 +10,10 @@ use Rattle.words.specs.Kinds.{isRecipe}
 use Rattle.words.specs.Paper.{Paper, refusal, noRefusal, accepted, refusedWith, told}
 use Rattle.words.specs.declared.Refusal.{Refusal}
 use Rattle.words.specs.declared.Witness.{Witness}
-use Rattle.alu.specs.Bits.{num}
-use Rattle.alu.specs.Evaluate.{isWidth}
-use Rattle.alu.specs.declared.Ports.{Ports}
-use Rattle.recipe.specs.Layout.{recipeFault}
+use Rattle.bits.specs.Bits.{num}
+use Rattle.alu.specs.Range.{isWidth}
+use Rattle.bits.specs.declared.Ports.{Ports}
+use Rattle.layout.specs.Layout.{recipeFault}
 use Rattle.binding.specs.Binding.{sideShows, shows}
 use Rattle.binding.specs.Right.{Right, claimOf}
 use Rattle.binding.specs.declared.Claim.{Claim}

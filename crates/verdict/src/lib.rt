@@ -1,11 +1,13 @@
 // The verdict on a claim at a width: whether a recipe shows what the side of its source shows, at all operands and both carries.
-use alu::Ports;
+mod search;
+
 use binding::Claim;
-use equivalence::search::Outcome;
+use bits::Ports;
+use search::Outcome;
 use words::Refusal;
 use words::Witness;
 ghost use mathlib.Core.Path.{_≡_};
-ghost use Rattle.alu.specs.Asked as Q;
+ghost use Rattle.bits.specs.Asked as Q;
 ghost use Rattle.binding.specs.Right as R;
 ghost use Rattle.verdict.specs.Verdicts as D;
 
@@ -50,7 +52,7 @@ pub fn verdict_on(claim: Claim, n: u32) -> Verdict
 {
     let source = claim.source;
     let recipe = claim.recipe;
-    let outcome = equivalence::search::search(source, recipe, n);
+    let outcome = search::search(source, recipe, n);
     match outcome {
         Outcome::Holds => Verdict::Right,
         Outcome::Fails(left, right, carry) => {
@@ -91,7 +93,7 @@ pub fn judge(word: u32, width: u32) -> Judgement
             place: 0,
         });
     }
-    let fault = recipe::recipe_fault(word);
+    let fault = layout::recipe_fault(word);
     if fault != words::NO_REFUSAL {
         return Judgement::Refused(Refusal {
             number: fault,

@@ -2,8 +2,8 @@
 use crate::nine::WIDTHS;
 use crate::trial::counted;
 use crate::trial::tried;
-use reference::Tally;
-use reference::first_difference;
+use reference::recipe::first_difference;
+use testing::tally::Tally;
 ghost use Prim.Native.Nat.{_≤_};
 
 // A recipe that is wrong at a width, where its O1 differs at operands that document 01 names.
@@ -31,11 +31,11 @@ fn right(tally: Tally, word: u32, widths: usize) -> Tally
 }
 
 pub fn report_cases() {
-    let printed = wrong(reference::none(), 0x5C89_4407, 8, 127, 255);
+    let printed = wrong(testing::tally::none(), 0x5C89_4407, 8, 127, 255);
     let mended = right(printed, 0x5C89_440C, 9);
     let appendix = wrong(mended, 0x5C8A_240B, 8, 0, 0);
     let at_one = right(appendix, 0x5CCD_4003, 1);
     let at_two = wrong(at_one, 0x5CCD_4003, 2, 1, 0);
     let all = right(at_two, 0x5105_CEA0, 9);
-    reference::say::report(b"cases of document 01", all);
+    testing::say::report(b"cases of document 01", all);
 }

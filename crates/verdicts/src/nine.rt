@@ -1,33 +1,36 @@
 // Recipes judged at nine widths: the small ones that can be tried whole, and those about the halves and the ends of machine words.
 use crate::trial::counted;
 use crate::trial::tried;
-use reference::Tally;
-use reference::more;
-use reference::say;
+use reference::places::number;
 use std::num::wrapping_add_u64;
+use testing::say;
+use testing::tally::Tally;
+use testing::tally::more;
 
 pub const WIDTHS: [u32; 9] = [1, 2, 3, 4, 8, 31, 32, 63, 64];
 
-// The recipes, the answers compared, how many recipes are right at each of the widths, at all of them, at width 1 only and at none.
+// Counts: the recipes, the answers compared and those that differ, how many recipes are right at all of the widths, at width 1 only and
+// at none, and how many at each of the nine.
+pub const RECIPES: usize = 0;
+
+const COMPARED: usize = 1;
+
+const DIFFER: usize = 2;
+
+const ALWAYS: usize = 3;
+
+const NARROW: usize = 4;
+
+const NEVER: usize = 5;
+
+const BY_WIDTH: usize = 6;
+
 pub struct Recipes {
-    pub recipes: u64,
-    pub tally: Tally,
-    pub right: [u64; 9],
-    pub always: u64,
-    pub narrow: u64,
-    pub never: u64,
+    pub counts: [u64; 15],
 }
 
 pub fn none() -> Recipes {
-    let right = [0; 9];
-    Recipes {
-        recipes: 0,
-        tally: reference::none(),
-        right,
-        always: 0,
-        narrow: 0,
-        never: 0,
-    }
+    Recipes { counts: [0; 15] }
 }
 
 // A recipe's word: a rule's at odd widths, a binding's at even ones.
@@ -39,81 +42,80 @@ pub fn word_at(content: u32, n: u32) -> u32 {
     }
 }
 
-// One recipe more, given by the low 28 bits of its word.
-pub fn with_recipe(all: Recipes, content: u32) -> Recipes {
-    let mut tally = all.tally;
-    let mut right = all.right;
-    let mut times: u64 = 0;
-    let mut first = false;
-    let mut k = 0;
+// The widths at which a recipe is right, by bits, the lowest the first of the nine; and what was compared.
+struct Judged {
+    right: u32,
+    tally: Tally,
+}
+
+// A recipe at each width, given by the low 28 bits of its word. The first difference of the tally is written out.
+fn judged_at_each(tally: Tally, content: u32) -> Judged {
+    let mut tally = tally;
+    let mut right = 0;
+    let mut k: u32 = 0;
     while k < 9 {
-        let n = WIDTHS[k];
+        let n = WIDTHS[k as usize];
         let word = word_at(content, n);
         let trial = tried(word, n);
         let next = counted(tally, word, n, trial.holds);
         tally = next;
-        right[k] = more(right[k], trial.right);
-        times = more(times, trial.right);
-        first = first | (trial.right & (n == 1));
+        right = right | (number(trial.right) << k);
         k += 1;
     }
-    Recipes {
-        recipes: more(all.recipes, true),
-        tally,
-        right,
-        always: more(all.always, times == 9),
-        narrow: more(all.narrow, first & (times == 1)),
-        never: more(all.never, times == 0),
+    Judged { right, tally }
+}
+
+fn with_widths(counts: [u64; 15], right: u32) -> [u64; 15] {
+    let mut counts = counts;
+    let mut k = 0;
+    let mut rest = right;
+    while k < 9 {
+        counts[k + BY_WIDTH] = more(counts[k + BY_WIDTH], rest % 2 == 1);
+        rest = rest / 2;
+        k += 1;
     }
+    counts
+}
+
+// One recipe more.
+pub fn with_recipe(all: Recipes, content: u32) -> Recipes {
+    let counts = all.counts;
+    let judged = judged_at_each(
+        Tally {
+            compared: counts[COMPARED],
+            differ: counts[DIFFER],
+        },
+        content,
+    );
+    let tally = judged.tally;
+    let mut counts = with_widths(counts, judged.right);
+    counts[RECIPES] = more(counts[RECIPES], true);
+    counts[COMPARED] = tally.compared;
+    counts[DIFFER] = tally.differ;
+    counts[ALWAYS] = more(counts[ALWAYS], judged.right == 0x1FF);
+    counts[NARROW] = more(counts[NARROW], judged.right == 1);
+    counts[NEVER] = more(counts[NEVER], judged.right == 0);
+    Recipes { counts }
 }
 
 // Two lots of recipes as one.
 pub fn together(all: Recipes, others: Recipes) -> Recipes {
-    let tally = all.tally;
-    let other = others.tally;
-    let mut right = all.right;
-    let added = others.right;
+    let mut counts = all.counts;
+    let added = others.counts;
     let mut k = 0;
-    while k < 9 {
-        right[k] = wrapping_add_u64(right[k], added[k]);
+    while k < 15 {
+        counts[k] = wrapping_add_u64(counts[k], added[k]);
         k += 1;
     }
-    Recipes {
-        recipes: wrapping_add_u64(all.recipes, others.recipes),
-        tally: Tally {
-            compared: wrapping_add_u64(tally.compared, other.compared),
-            differ: wrapping_add_u64(tally.differ, other.differ),
-        },
-        right,
-        always: wrapping_add_u64(all.always, others.always),
-        narrow: wrapping_add_u64(all.narrow, others.narrow),
-        never: wrapping_add_u64(all.never, others.never),
-    }
-}
-
-fn wide(x: u32) -> u64 {
-    x as u64
-}
-
-fn say_widths(right: [u64; 9]) {
-    let mut k = 0;
-    while k < 9 {
-        say::count(b" ", wide(WIDTHS[k]));
-        say::count(b": ", right[k]);
-        k += 1;
-    }
+    Recipes { counts }
 }
 
 // Ends a line that begins with the recipes' name.
 pub fn report(all: Recipes) {
-    let tally = all.tally;
-    let right = all.right;
-    say::count(b": ", all.recipes);
-    say::compared(b" recipes at nine widths, ", tally);
-    say::count(b"; right at all ", all.always);
-    say::count(b", at width 1 only ", all.narrow);
-    say::count(b", at none ", all.never);
-    say::text(b"; by width");
-    say_widths(right);
-    say::text(b"\n");
+    let counts = all.counts;
+    say::line(
+        b": # recipes at nine widths, # compared, # differ; right at all #, at width 1 only #, at none #; by width \
+        1: # 2: # 3: # 4: # 8: # 31: # 32: # 63: # 64: #\n",
+        &counts,
+    );
 }

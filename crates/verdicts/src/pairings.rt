@@ -5,10 +5,11 @@ use crate::nine::word_at;
 use crate::stored::RECIPES;
 use crate::trial::counted;
 use crate::trial::tried;
-use reference::Tally;
-use reference::more;
-use reference::next;
-use reference::say;
+use reference::trial::next;
+use testing::names::name_at;
+use testing::say;
+use testing::tally::Tally;
+use testing::tally::more;
 
 // The kinds, in turn: arithmetic, logic, comparison, and from scratch, whose number is 0; each but the last from a function on.
 const FIRST: [u32; 4] = [1, 6, 22, 28];
@@ -23,19 +24,12 @@ fn kind_of(function: u32) -> u32 {
     }
 }
 
-fn say_kind(kind: u32) {
-    match kind {
-        0 => say::text(b"arithmetic"),
-        1 => say::text(b"logic"),
-        2 => say::text(b"comparison"),
-        _ => say::text(b"scratch"),
-    }
-}
+const KINDS: [u8; 35] = *b"arithmetic|logic|comparison|scratch";
 
 fn say_pairing(sources: u32, targets: u32) {
-    say_kind(sources);
+    say::text(name_at(&KINDS, sources as usize));
     say::text(b" from ");
-    say_kind(targets);
+    say::text(name_at(&KINDS, targets as usize));
 }
 
 // The recipes of a pairing, the verdicts compared at widths 1 and 2, and how many are right at each; some at nine widths.
@@ -89,7 +83,7 @@ fn with_recipe(all: Pairing, content: u32, sources: u32, targets: u32) -> Pairin
 fn paired(sources: u32, targets: u32) -> Pairing {
     let mut all = Pairing {
         recipes: 0,
-        tally: reference::none(),
+        tally: testing::tally::none(),
         one: 0,
         two: 0,
         nine: nine::none(),
@@ -99,7 +93,7 @@ fn paired(sources: u32, targets: u32) -> Pairing {
     let mut content = FIRST[of] % 32 * 0x80_0000;
     while content < end {
         let is_paired = kind_of(content / 0x4_0000 % 32) == targets;
-        if is_paired & (reference::refusal_of(word_at(content, 1), 1).number == 0) {
+        if is_paired & (reference::refusal::refusal_of(word_at(content, 1), 1).number == 0) {
             let next = with_recipe(all, content, sources, targets);
             all = next;
         }
@@ -109,21 +103,32 @@ fn paired(sources: u32, targets: u32) -> Pairing {
     all
 }
 
+// Those judged at nine widths, where there are any.
+fn report_nine(sources: u32, targets: u32, nine: Recipes) {
+    let counts = nine.counts;
+    if 0 < counts[nine::RECIPES] {
+        say_pairing(sources, targets);
+        nine::report(nine);
+    }
+}
+
 // One pairing more, of recipes that were judged at nine widths.
 fn with_pairing(all: Recipes, sources: u32, targets: u32) -> Recipes {
     let these = paired(sources, targets);
     let tally = these.tally;
     say_pairing(sources, targets);
-    say::count(b": ", these.recipes);
-    say::compared(b" recipes at widths 1 and 2, ", tally);
-    say::count(b"; right at 1: ", these.one);
-    say::count(b", at 2: ", these.two);
-    say::text(b"\n");
+    say::line(
+        b": # recipes at widths 1 and 2, # compared, # differ; right at 1: #, at 2: #\n",
+        &[
+            these.recipes,
+            tally.compared,
+            tally.differ,
+            these.one,
+            these.two,
+        ],
+    );
     let nine = these.nine;
-    if 0 < nine.recipes {
-        say_pairing(sources, targets);
-        nine::report(nine);
-    }
+    report_nine(sources, targets, nine);
     nine::together(all, nine)
 }
 

@@ -2,12 +2,12 @@
 use crate::stored::RECIPES;
 use crate::trial::counted;
 use crate::trial::judged;
-use reference::Answer;
-use reference::DONE;
-use reference::Numbers;
-use reference::more;
-use reference::next;
-use reference::say;
+use reference::answer::Answer;
+use reference::answer::DONE;
+use reference::trial::next;
+use testing::say;
+use testing::tally::Numbers;
+use testing::tally::more;
 ghost use Prim.Native.Nat.{_<_};
 
 // By what the reference refuses: 0 for nothing, 1 for the width, or the word's number.
@@ -99,13 +99,13 @@ fn case_of(lot: u32, i: u32, random: u64) -> Case {
 
 // There are many, so the counts stay in the loop's own locals.
 fn compared(lot: u32, count: u32) -> Numbers {
-    let mut tally = reference::none();
+    let mut tally = testing::tally::none();
     let mut by = [0; 12];
     let mut random = 0x2545_f491_4f6c_dd1d;
     let mut i: u32 = 0;
     while i < count {
         let case = case_of(lot, i, random);
-        let refusal = reference::refusal_of(case.word, case.width);
+        let refusal = reference::refusal::refusal_of(case.word, case.width);
         let after = counted(
             tally,
             case.word,
@@ -123,22 +123,23 @@ fn compared(lot: u32, count: u32) -> Numbers {
     Numbers { tally, by }
 }
 
-fn say_groups(by: [u64; 12]) {
-    say::count(b"; refused 2: ", by[2]);
-    say::count(b", 3: ", by[3]);
-    say::count(b", 5: ", by[5]);
-    say::count(b", 6: ", by[6]);
-    say::count(b", 3 for the width: ", by[1]);
-    say::count(b", not refused: ", by[0]);
-}
-
 fn report(name: &[u8], all: Numbers) {
     let tally = all.tally;
     let by = all.by;
     say::text(name);
-    say::compared(b": ", tally);
-    say_groups(by);
-    say::text(b"\n");
+    say::line(
+        b": # compared, # differ; refused 2: #, 3: #, 5: #, 6: #, 3 for the width: #, not refused: #\n",
+        &[
+            tally.compared,
+            tally.differ,
+            by[2],
+            by[3],
+            by[5],
+            by[6],
+            by[1],
+            by[0],
+        ],
+    );
 }
 
 pub fn report_refusals() {

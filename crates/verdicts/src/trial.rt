@@ -1,33 +1,45 @@
 // One verdict of the judge, tried by the reference. A right one is tried at operands, all of them at small widths. A wrong one is tried
 // at its own operands, so it is borne out only if the recipe is wrong.
-use reference::Answer;
-use reference::DONE;
-use reference::OF_WORD;
-use reference::Tally;
-use reference::answered;
-use reference::say;
+use reference::answer::Answer;
+use reference::answer::DONE;
+use reference::answer::OF_WORD;
+use reference::answer::answered;
+use reference::answer::wrong;
+use reference::trial::Witness;
+use reference::trial::bears_out;
+use reference::trial::is_right;
+use testing::say;
+use testing::tally::Tally;
 use verdict::Judgement;
 use verdict::Verdict;
 
-// What was decided has the form of what is done; its number is 10 where the recipe is wrong.
-fn of_verdict(verdict: Verdict) -> Answer {
+// Whether a witness shows that a recipe is wrong at a width.
+fn is_shown(word: u32, n: u32, witness: words::Witness) -> bool {
+    bears_out(
+        word,
+        n,
+        Witness {
+            function: witness.function,
+            port: witness.port,
+            left: witness.left,
+            right: witness.right,
+            carry: witness.carry,
+        },
+    )
+}
+
+// What was decided has the form of what is done; its number is 0 where the recipe is right, 10 where it is shown to be wrong.
+fn of_verdict(verdict: Verdict, word: u32, n: u32) -> Answer {
     match verdict {
         Verdict::Right => answered(DONE, 0, 0),
-        Verdict::Wrong(witness) => reference::wrong(
-            DONE,
-            witness.function,
-            witness.port,
-            witness.left,
-            witness.right,
-            witness.carry,
-        ),
+        Verdict::Wrong(witness) => wrong(DONE, witness.function, is_shown(word, n, witness)),
     }
 }
 
 pub fn judged(word: u32, n: u32) -> Answer {
     let judgement = verdict::judge(word, n);
     match judgement {
-        Judgement::Decided(verdict) => of_verdict(verdict),
+        Judgement::Decided(verdict) => of_verdict(verdict, word, n),
         Judgement::Refused(refusal) => answered(OF_WORD, refusal.number, refusal.place),
     }
 }
@@ -40,36 +52,30 @@ pub struct Trial {
 
 pub fn tried(word: u32, n: u32) -> Trial {
     let told = judged(word, n);
-    if told.form != DONE {
-        return Trial {
-            holds: false,
-            right: false,
-        };
-    }
-    if told.number == 0 {
-        return Trial {
-            holds: reference::is_right(word, n),
-            right: true,
-        };
-    }
-    let witness = told.witness;
-    Trial {
-        holds: reference::bears_out(word, n, witness),
-        right: false,
-    }
+    let right = (told.form == DONE) & (told.number == 0);
+    let holds = if right {
+        is_right(word, n)
+    } else {
+        (told.form == DONE) & (told.number == 10)
+    };
+    Trial { holds, right }
 }
 
 // The numbers are 0 where nothing is refused; the judge's is 0 too where it says right, and 10 where it says wrong.
 fn say_difference(word: u32, n: u32) {
     let told = judged(word, n);
-    let refusal = reference::refusal_of(word, n);
+    let refusal = reference::refusal::refusal_of(word, n);
     say::word(b"differs: ", word);
-    say::count(b" at width ", n as u64);
-    say::count(b"; judge: ", told.number as u64);
-    say::count(b" ", told.place as u64);
-    say::count(b"; reference: ", refusal.number as u64);
-    say::count(b" ", refusal.place as u64);
-    say::text(b"\n");
+    say::line(
+        b" at width #; judge: # #; reference: # #\n",
+        &[
+            n as u64,
+            told.number as u64,
+            told.place as u64,
+            refusal.number as u64,
+            refusal.place as u64,
+        ],
+    );
 }
 
 // One comparison more. The first difference of a tally is written out.
@@ -79,5 +85,5 @@ pub fn counted(tally: Tally, word: u32, n: u32, same: bool) -> Tally {
             say_difference(word, n);
         }
     }
-    reference::counted(tally, same)
+    testing::tally::counted(tally, same)
 }

@@ -7,15 +7,16 @@ use lib.ListN.{length, drop, getD, drop-of-length-le, length-append, List·getD-
 use lib.Seq.{getD-append-add}
 use Rattle.words.specs.Field.{field, kindOf, contentOf}
 use Rattle.words.specs.Kinds.{HEADER, PRICES, SOURCE, TARGET}
-use Rattle.reader.specs.Limits.{mostSources, mostTargets, rulesStart}
-use Rattle.reader.specs.Reading.{beginning, after, reading}
+use Rattle.sequence.specs.Limits.{mostSources, mostTargets}
+use Rattle.reader.specs.Starts.{rulesStart}
+use Rattle.grammar.specs.Reading.{beginning, after, reading}
 use Rattle.reader.specs.Job.{WellFormedJob}
-use Rattle.reader.specs.declared.sequence.File.the-variants.{AsJob}
-use Rattle.reader.specs.declared.sequence.State.{State}
-use Rattle.reader.specs.declared.step.Reading.the-variants.{Passed}
+use Rattle.sequence.specs.declared.File.the-variants.{AsJob}
+use Rattle.sequence.specs.declared.State.{State}
+use Rattle.grammar.specs.declared.step.Reading.the-variants.{Passed}
 use Rattle.reader.specs.declared.Job.{Job}
 use Rattle.words.specs.declared.Prices.{Prices}
-use Rattle.reader.proofs.Steps.{first-of-kind}
+use Rattle.grammar.proofs.Steps.{first-of-kind}
 use Rattle.wellformed.proofs.Parts.{Entry, kind-of-laid, content-of-laid}
 use Rattle.wellformed.proofs.Words.{width-whole}
 use Rattle.wellformed.proofs.JobWords.{JobFacts}

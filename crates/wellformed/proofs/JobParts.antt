@@ -12,15 +12,16 @@ use borrow.Author.Tests.{eq-eqb, ne-eqb, lt-ltb}
 use Rattle.words.specs.Field.{kindOf, contentOf}
 use Rattle.words.proofs.Choices.{and-join}
 use Rattle.words.specs.Kinds.{HEADER, PRICES, SOURCE, TARGET, RULE, isRecipe}
-use Rattle.reader.specs.Limits.{mostSources, mostTargets, mostRules, sourcesStart, targetsStart, rulesStart}
-use Rattle.reader.specs.Sequence.{jobSequence, inSequence}
-use Rattle.reader.specs.Reading.{rises, after, functionIn, reading}
-use Rattle.reader.specs.declared.sequence.File.the-variants.{AsJob}
-use Rattle.reader.specs.declared.sequence.State.{State}
+use Rattle.sequence.specs.Limits.{mostSources, mostTargets, mostRules}
+use Rattle.reader.specs.Starts.{sourcesStart, targetsStart, rulesStart}
+use Rattle.sequence.specs.Sequence.{jobSequence, inSequence}
+use Rattle.grammar.specs.Reading.{rises, after, functionIn, reading}
+use Rattle.sequence.specs.declared.File.the-variants.{AsJob}
+use Rattle.sequence.specs.declared.State.{State}
 use Rattle.reader.specs.declared.Job.{Job}
-use Rattle.reader.proofs.Steps.{header-fits, prices-fit, source-fits, target-fits, recipe-fits, no-order, next-of-kind, first-of-kind}
+use Rattle.grammar.proofs.Steps.{header-fits, prices-fit, source-fits, target-fits, recipe-fits, no-order, next-of-kind, first-of-kind}
 use Rattle.wellformed.proofs.Parts.{Entry, RecipeWord}
-use Rattle.reader.proofs.Faultless.{Faultless}
+use Rattle.grammar.proofs.Faultless.{Faultless}
 use Rattle.wellformed.proofs.Words.{is-width, is-function, no-outputs, recipe-outputs, function-of-source, function-of-target}
 use Rattle.wellformed.proofs.JobWords.{JobFacts}
 use Rattle.wellformed.proofs.MappingAccepting.{passes}

@@ -11,20 +11,21 @@ use Rattle.words.proofs.Fields.{field-lt}
 use Rattle.words.proofs.Choices.{either}
 use Rattle.words.specs.Kinds.{HEADER, PRICES, SOURCE, TARGET, RULE}
 use Rattle.words.specs.declared.Refusal.{Refusal}
-use Rattle.reader.specs.Limits.{mostSources, mostTargets, mostRules, mostJobWords, sourcesStart, targetsStart, rulesStart}
-use Rattle.reader.specs.Sequence.{inSequence}
-use Rattle.reader.specs.Reading.{beginning, noted, after, functionIn, reading}
+use Rattle.sequence.specs.Limits.{mostSources, mostTargets, mostRules, mostJobWords}
+use Rattle.reader.specs.Starts.{sourcesStart, targetsStart, rulesStart}
+use Rattle.sequence.specs.Sequence.{inSequence}
+use Rattle.grammar.specs.Reading.{beginning, noted, after, functionIn, reading}
 use Rattle.reader.specs.Job.{jobFacts, jobEnded, jobOf, WellFormedJob}
-use Rattle.reader.specs.declared.sequence.File.the-variants.{AsJob}
-use Rattle.reader.specs.declared.sequence.State.{State}
-use Rattle.reader.specs.declared.step.Reading.{Reading}
-use Rattle.reader.specs.declared.step.Reading.the-variants.{Passed, Stopped}
+use Rattle.sequence.specs.declared.File.the-variants.{AsJob}
+use Rattle.sequence.specs.declared.State.{State}
+use Rattle.grammar.specs.declared.step.Reading.{Reading}
+use Rattle.grammar.specs.declared.step.Reading.the-variants.{Passed, Stopped}
 use Rattle.reader.specs.declared.Job.{Job}
 use Rattle.reader.specs.declared.JobRead.{JobRead}
 use Rattle.reader.specs.declared.JobRead.the-variants.{Accepted, Refused}
 use Rattle.wellformed.proofs.Parts.{Each, Rising, Entry, RecipeWord, each-none, each-more, rising-none, rising-more, rising-as}
-use Rattle.reader.proofs.Faultless.{Faultless, passed}
-use Rattle.reader.proofs.Stages.{by-kind}
+use Rattle.grammar.proofs.Faultless.{Faultless, passed}
+use Rattle.grammar.proofs.Stages.{by-kind}
 use Rattle.wellformed.proofs.Words.{Last, HeaderFirst, header-first, last-more, width-whole, prices-range, source-entry, target-entry, recipe-word, function-of-source, function-of-target, risen}
 
 -- ---- what the words so far hold

@@ -13,18 +13,18 @@ use Rattle.words.proofs.Choices.{and-join}
 use Rattle.words.proofs.Lists.{drop-next}
 use Rattle.recipe.specs.Fields.{sourceOf}
 use Rattle.words.specs.Kinds.{HEADER, BINDING, GLUE, isRecipe}
-use Rattle.reader.specs.Limits.{mostBindings}
-use Rattle.reader.specs.Sequence.{mappingSequence, inSequence}
-use Rattle.reader.specs.Reading.{rises, wordFault, beginning, after, functionIn, reading}
+use Rattle.sequence.specs.Limits.{mostBindings}
+use Rattle.sequence.specs.Sequence.{mappingSequence, inSequence}
+use Rattle.grammar.specs.Reading.{rises, wordFault, beginning, after, functionIn, reading}
 use Rattle.reader.specs.Mapping.{WellFormedMapping}
-use Rattle.reader.specs.declared.sequence.File.{File}
-use Rattle.reader.specs.declared.sequence.File.the-variants.{AsMapping}
-use Rattle.reader.specs.declared.sequence.State.{State}
-use Rattle.reader.specs.declared.step.Reading.the-variants.{Passed}
+use Rattle.sequence.specs.declared.File.{File}
+use Rattle.sequence.specs.declared.File.the-variants.{AsMapping}
+use Rattle.sequence.specs.declared.State.{State}
+use Rattle.grammar.specs.declared.step.Reading.the-variants.{Passed}
 use Rattle.reader.specs.declared.Mapping.{Mapping}
-use Rattle.reader.proofs.Steps.{header-fits, glue-fits, recipe-fits, next-of-kind, first-of-kind}
+use Rattle.grammar.proofs.Steps.{header-fits, glue-fits, recipe-fits, next-of-kind, first-of-kind}
 use Rattle.wellformed.proofs.Parts.{RecipeWord, kind-of-laid, content-of-laid}
-use Rattle.reader.proofs.Faultless.{Faultless, no-fault}
+use Rattle.grammar.proofs.Faultless.{Faultless, no-fault}
 use Rattle.wellformed.proofs.Words.{is-width, width-whole, no-outputs, recipe-outputs, function-of-binding}
 use Rattle.wellformed.proofs.MappingWords.{Open, by-open, MappingFacts}
 use Rattle.reader.proofs.MappingAnswers.{accepted}

@@ -13,19 +13,20 @@ use Rattle.words.proofs.Fields.{field-lt}
 use Rattle.recipe.specs.Fields.{sourceOf}
 use Rattle.words.specs.Kinds.{HEADER, BINDING, GLUE}
 use Rattle.words.specs.declared.Refusal.{Refusal}
-use Rattle.reader.specs.Limits.{mostBindings, mostMappingWords, bindingsStart, bindingPlace, gluePlace}
-use Rattle.reader.specs.Sequence.{mappingSequence, inSequence}
-use Rattle.reader.specs.Reading.{beginning, noted, after, functionIn, reading}
+use Rattle.sequence.specs.Limits.{mostBindings, mostMappingWords}
+use Rattle.reader.specs.Starts.{bindingsStart, bindingPlace, gluePlace}
+use Rattle.sequence.specs.Sequence.{mappingSequence, inSequence}
+use Rattle.grammar.specs.Reading.{beginning, noted, after, functionIn, reading}
 use Rattle.reader.specs.Mapping.{mappingFacts, mappingEnded, mappingOf, WellFormedMapping}
-use Rattle.reader.specs.declared.sequence.File.the-variants.{AsMapping}
-use Rattle.reader.specs.declared.sequence.State.{State}
-use Rattle.reader.specs.declared.step.Reading.{Reading}
-use Rattle.reader.specs.declared.step.Reading.the-variants.{Passed, Stopped}
+use Rattle.sequence.specs.declared.File.the-variants.{AsMapping}
+use Rattle.sequence.specs.declared.State.{State}
+use Rattle.grammar.specs.declared.step.Reading.{Reading}
+use Rattle.grammar.specs.declared.step.Reading.the-variants.{Passed, Stopped}
 use Rattle.reader.specs.declared.Mapping.{Mapping}
 use Rattle.reader.specs.declared.MappingRead.{MappingRead}
 use Rattle.reader.specs.declared.MappingRead.the-variants.{Accepted, Refused}
 use Rattle.wellformed.proofs.Parts.{Each, Rising, RecipeWord, word-of-kind, each-none, each-more, rising-none, rising-more, rising-as}
-use Rattle.reader.proofs.Faultless.{Faultless, passed}
+use Rattle.grammar.proofs.Faultless.{Faultless, passed}
 use Rattle.wellformed.proofs.Words.{Last, HeaderFirst, header-first, last-more, width-whole, recipe-word, function-of-binding, risen}
 
 -- ---- the three kinds, in sequence

@@ -12,16 +12,16 @@ use Rattle.words.specs.Kinds.{isRecipe}
 use Rattle.words.specs.Paper.{refusal}
 use Rattle.words.specs.declared.Refusal.{Refusal}
 use Rattle.words.proofs.Choices.{either}
-use Rattle.recipe.specs.Layout.{readsUndriven, showsOther}
-use Rattle.reader.specs.Limits.{mostJobWords}
-use Rattle.reader.specs.Sequence.{inSequence}
-use Rattle.reader.specs.Reading.{fits, rises, wordFault, beginning, after, reading}
+use Rattle.layout.specs.Layout.{readsUndriven, showsOther}
+use Rattle.sequence.specs.Limits.{mostJobWords}
+use Rattle.sequence.specs.Sequence.{inSequence}
+use Rattle.grammar.specs.Reading.{fits, rises, wordFault, beginning, after, reading}
 use Rattle.reader.specs.Job.{jobEnded, jobOf}
-use Rattle.reader.specs.declared.sequence.File.{File}
-use Rattle.reader.specs.declared.sequence.File.the-variants.{AsJob}
-use Rattle.reader.specs.declared.sequence.State.{State}
-use Rattle.reader.specs.declared.step.Reading.{Reading}
-use Rattle.reader.specs.declared.step.Reading.the-variants.{Passed, Stopped}
+use Rattle.sequence.specs.declared.File.{File}
+use Rattle.sequence.specs.declared.File.the-variants.{AsJob}
+use Rattle.sequence.specs.declared.State.{State}
+use Rattle.grammar.specs.declared.step.Reading.{Reading}
+use Rattle.grammar.specs.declared.step.Reading.the-variants.{Passed, Stopped}
 use Rattle.reader.specs.declared.JobRead.{JobRead}
 use Rattle.reader.specs.declared.JobRead.the-variants.{Refused}
 

@@ -8,7 +8,7 @@ use native.Mathlib.Omega.{arith}
 use borrow.Author.Count.{below-more}
 use lib.ListN.{getD}
 use Rattle.words.specs.Field.{kindOf, contentOf}
-use Rattle.recipe.specs.Layout.{recipeFault}
+use Rattle.layout.specs.Layout.{recipeFault}
 
 -- P holds of each of the n words from an index on
 abbrev pub Each : (ℕ → Type 0) → List ℕ → ℕ → ℕ → Type 0

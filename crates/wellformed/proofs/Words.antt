@@ -10,16 +10,16 @@ use borrow.Author.Tests.{eq-eqb, ne-eqb, eqb-true, eqb-false, le-ltb, le-leb, le
 use Rattle.words.specs.Field.{field, kindOf, contentOf}
 use Rattle.words.specs.Kinds.{HEADER, PRICES, SOURCE, TARGET, RULE, BINDING, isRecipe}
 use Rattle.words.proofs.Choices.{either}
-use Rattle.alu.specs.Evaluate.{isFunction, isWidth}
-use Rattle.alu.specs.Asked.{Width}
+use Rattle.alu.specs.Range.{isFunction, isWidth}
+use Rattle.bits.specs.Asked.{Width}
 use Rattle.alu.proofs.Shown.{width-of}
 use Rattle.recipe.specs.Fields.{sourceOf}
-use Rattle.recipe.specs.Layout.{laidOut, readsUndriven, showsOther, recipeFault}
-use Rattle.reader.specs.Reading.{fits, functionIn, rises}
-use Rattle.reader.specs.declared.sequence.File.{File}
-use Rattle.reader.specs.declared.sequence.State.{State}
-use Rattle.reader.proofs.Steps.{header-fits, prices-fit, source-fits, target-fits, recipe-fits, of-source, of-target, of-recipe}
-use Rattle.reader.proofs.Faultless.{Faultless}
+use Rattle.layout.specs.Layout.{laidOut, readsUndriven, showsOther, recipeFault}
+use Rattle.grammar.specs.Reading.{fits, functionIn, rises}
+use Rattle.sequence.specs.declared.File.{File}
+use Rattle.sequence.specs.declared.State.{State}
+use Rattle.grammar.proofs.Steps.{header-fits, prices-fit, source-fits, target-fits, recipe-fits, of-source, of-target, of-recipe}
+use Rattle.grammar.proofs.Faultless.{Faultless}
 use Rattle.wellformed.proofs.Parts.{Entry, RecipeWord}
 
 -- ---- numbers in range

@@ -12,7 +12,7 @@ use Rattle.words.specs.Field.{wordOf}
 use Rattle.words.proofs.Lists.{drop-next}
 use Rattle.words.specs.Kinds.{HEADER, GLUE}
 use Rattle.words.specs.Paper.{refusal}
-use Rattle.reader.specs.Limits.{bindingsStart}
+use Rattle.reader.specs.Starts.{bindingsStart}
 use Rattle.writer.specs.Write.{bindingWord, bindingWords, mappingWords, wordsNeeded, writtenOf, lentAfter}
 use Rattle.writer.specs.declared.Written.the-variants.{Words, Refused}
 

@@ -2,7 +2,7 @@
 use Prim.Native.Nat.{ℕ, _^_, _≤_, _<_}
 use mathlib.Core.List.{List}
 use lib.ListN.{length}
-use Rattle.reader.specs.Limits.{mostBindings}
+use Rattle.sequence.specs.Limits.{mostBindings}
 
 pub record Writable (width glue : ℕ) (bound : List ℕ) : Type 0 where
   pub width-fits : width ≤ 64

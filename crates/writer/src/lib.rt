@@ -3,7 +3,7 @@ use words::Refusal;
 ghost use mathlib.Core.Path.{_≡_};
 ghost use Prim.Native.Nat.{_≤_};
 ghost use lib.ListN.{length};
-ghost use Rattle.reader.specs.Limits.{mostBindings};
+ghost use Rattle.sequence.specs.Limits.{mostBindings};
 ghost use Rattle.writer.specs.Asked as Q;
 ghost use Rattle.writer.specs.Write as W;
 

@@ -1,7 +1,7 @@
 -- `alu::is_function` meets its contract.
 use Rattle.words.proofs.Choices.{decide}
 use Rattle.alu.proofs.is_function.Statement.{statement}
-use Rattle.alu.specs.Evaluate.{isFunction}
+use Rattle.alu.specs.Range.{isFunction}
 use Rattle.alu.proofs.is_function.Tie as tie
 
 returns : tie.Need-returns

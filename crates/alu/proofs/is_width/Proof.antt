@@ -1,7 +1,7 @@
 -- `alu::is_width` meets its contract.
 use Rattle.words.proofs.Choices.{decide}
 use Rattle.alu.proofs.is_width.Statement.{statement}
-use Rattle.alu.specs.Evaluate.{isWidth}
+use Rattle.alu.specs.Range.{isWidth}
 use Rattle.alu.proofs.is_width.Tie as tie
 
 returns : tie.Need-returns

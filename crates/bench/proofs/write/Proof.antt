@@ -1,5 +1,6 @@
 -- `bench::write` meets its contract.
 use borrow.Author.Needs.{needs}
+use Rattle.soundness.proofs.Soundness.{sound-tables}
 use Rattle.bench.proofs.Finishing.{bound-fit, bound-taken, mapping-writable, words-lacking, words-written, mapping-laid}
 use Rattle.bench.proofs.Shapes.{shaped}
 use Rattle.bench.proofs.write.Statement.{statement}
@@ -9,7 +10,7 @@ cast-nsources : tie.Need-cast-nsources
 cast-nsources c = search needs
 
 glue-on-requires : tie.Need-glue-on-requires
-glue-on-requires c κs = search needs
+glue-on-requires c κs = search sound-tables
 
 array-share-prefix-bound : tie.Need-array-share-prefix-bound
 array-share-prefix-bound c = search (shaped, bound-fit)

@@ -1,5 +1,5 @@
 -- `check_mapping::main` meets its contract.
-use Rattle.console.proofs.Parts.{array-start}
+use Rattle.input.proofs.Parts.{array-start}
 use borrow.Author.Needs.{needs}
 use Rattle.check_mapping.proofs.main.Statement.{statement}
 use Rattle.check_mapping.proofs.main.Tie as tie

@@ -1,5 +1,5 @@
 -- `deqhulov::deqhulov_check` meets its contract.
-use Rattle.deqhulov.proofs.Telling.{told-of}
+use Rattle.report.proofs.Telling.{told-of}
 use borrow.Author.Needs.{needs}
 use Rattle.deqhulov.proofs.deqhulov_check.Statement.{statement}
 use Rattle.deqhulov.proofs.deqhulov_check.Tie as tie

@@ -1,6 +1,6 @@
 -- `deqhulov::deqhulov_map` meets its contract.
 use Rattle.mapper.specs.Mapping.{paperOf}
-use Rattle.deqhulov.proofs.Telling.{told-of}
+use Rattle.report.proofs.Telling.{told-of}
 use mathlib.Core.Path.{_∙_, ap}
 use borrow.Author.Needs.{needs}
 use Rattle.deqhulov.proofs.deqhulov_map.Statement.{statement}

@@ -1,5 +1,5 @@
 -- `examples::check` meets its contract.
-use Rattle.console.proofs.Parts.{array-start}
+use Rattle.input.proofs.Parts.{array-start}
 use borrow.Author.Needs.{needs}
 use Rattle.examples.proofs.check.Statement.{statement}
 use Rattle.examples.proofs.check.Tie as tie

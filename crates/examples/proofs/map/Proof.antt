@@ -1,5 +1,5 @@
 -- `examples::map` meets its contract.
-use Rattle.console.proofs.Parts.{array-start}
+use Rattle.input.proofs.Parts.{array-start}
 use borrow.Author.Needs.{needs}
 use Rattle.examples.proofs.map.Statement.{statement}
 use Rattle.examples.proofs.map.Tie as tie

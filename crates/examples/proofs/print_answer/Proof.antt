@@ -1,5 +1,5 @@
 -- `examples::print_answer` meets its contract.
-use Rattle.console.proofs.Parts.{start-length}
+use Rattle.words.proofs.Lists.{start-length}
 use borrow.Author.Needs.{needs}
 use Rattle.examples.proofs.print_answer.Statement.{statement}
 use Rattle.examples.proofs.print_answer.Tie as tie

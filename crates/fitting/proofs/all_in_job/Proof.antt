@@ -3,7 +3,7 @@ use borrow.Author.Needs.{needs}
 use Prim.Native.Nat.{_+_, _-_, _≤_}
 use lib.ListN.{length, drop}
 use mathlib.Core.Path.{_≡_}
-use Rattle.reader.specs.Limits.{bindingsStart}
+use Rattle.reader.specs.Starts.{bindingsStart}
 use Rattle.fitting.proofs.Fitted.{strange, in-place, none-strange}
 use Rattle.fitting.specs.Fitting.{allInJob}
 use Rattle.fitting.proofs.all_in_job.Statement.{statement}

@@ -3,7 +3,7 @@ use Prim.Native.Nat.{_≤_, _-_, _+_}
 use borrow.Author.Needs.{needs}
 use mathlib.Core.Path.{_≡_}
 use native.Mathlib.Omega.{arith}
-use Rattle.alu.specs.Bits.{bit}
+use Rattle.bits.specs.Bits.{bit}
 use Rattle.glue.proofs.Counts.{next-code, codes-fit, all-codes, codes-most}
 use Rattle.glue.proofs.codes_count.Statement.{statement}
 use Rattle.glue.specs.Glue.{codesCount, codePrice, comparisonCodes}

@@ -1,7 +1,7 @@
 -- `glue::has` meets its contract.
 use borrow.Author.Needs.{needs}
 use mathlib.Core.Path.{refl}
-use Rattle.alu.specs.Bits.{bit}
+use Rattle.bits.specs.Bits.{bit}
 use Rattle.glue.proofs.has.Statement.{statement}
 use Rattle.glue.proofs.has.Tie as tie
 

@@ -1,5 +1,5 @@
 -- `map_job::main` meets its contract.
-use Rattle.console.proofs.Parts.{array-start}
+use Rattle.input.proofs.Parts.{array-start}
 use borrow.Author.Needs.{needs}
 use Rattle.map_job.proofs.main.Statement.{statement}
 use Rattle.map_job.proofs.main.Tie as tie

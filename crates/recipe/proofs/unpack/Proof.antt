@@ -2,7 +2,7 @@
 use Prim.Native.Nat.{_/_, _^_}
 use lib.Bits.{and-mask}
 use native.Mathlib.Nat.{div-one}
-use Rattle.alu.specs.Bits.{word}
+use Rattle.bits.specs.Bits.{word}
 use Rattle.recipe.proofs.unpack.Statement.{statement}
 use Rattle.recipe.proofs.unpack.Tie as tie
 

@@ -1,7 +1,7 @@
 -- `recipe::vector_of` meets its contract.
 use lib.Bits.{and-mask}
 use native.Mathlib.Nat.{div-one}
-use Rattle.alu.specs.Bits.{word}
+use Rattle.bits.specs.Bits.{word}
 use Rattle.recipe.proofs.vector_of.Statement.{statement}
 use Rattle.recipe.proofs.vector_of.Tie as tie
 

@@ -7,7 +7,7 @@ use mathlib.Core.List.{[], _∷_, _++_}
 use mathlib.Core.Path.{_≡_}
 use native.Mathlib.Omega.{arith}
 use Rattle.words.specs.Kinds.{GLUE}
-use Rattle.reader.specs.Limits.{bindingsStart}
+use Rattle.reader.specs.Starts.{bindingsStart}
 use Rattle.words.specs.Field.{wordOf}
 use Rattle.writer.proofs.Writing.{glue-written, enough, all-written, binding-written, too-few, kept}
 use Rattle.writer.proofs.write_mapping.Statement.{statement}

@@ -1,6 +1,6 @@
 -- `bench::Bench::bind` meets its contract.
 use borrow.Author.Needs.{needs}
-use Rattle.bench.proofs.Binds.{bind-refused, checked-sound, checked-entry, bind-wrong, bind-right}
+use Rattle.bench.proofs.Binds.{bind-refused, checked-tables, checked-entry, bind-wrong, bind-right}
 use Rattle.bench.proofs.Shapes.{shaped}
 use Rattle.bench.proofs.Bench.bind.Statement.{statement}
 use Rattle.bench.proofs.Bench.bind.Tie as tie
@@ -15,10 +15,10 @@ returns : tie.Need-returns
 returns c = search bind-refused
 
 entry-for-requires : tie.Need-entry-for-requires
-entry-for-requires c κs = search checked-sound
+entry-for-requires c κs = search checked-tables
 
 verdict-on-requires : tie.Need-verdict-on-requires
-verdict-on-requires c κs = search checked-sound
+verdict-on-requires c κs = search checked-tables
 
 enum-known-verdict : tie.Need-enum-known-verdict
 enum-known-verdict c = search needs

@@ -1,6 +1,6 @@
 -- `bench::Bench::finish` meets its contract.
 use borrow.Author.Needs.{needs}
-use Rattle.bench.proofs.Binds.{is-sound}
+use Rattle.bench.proofs.Binds.{is-sound, tables-sound}
 use Rattle.bench.proofs.Finishing.{finish-unsound, unsound-kept, finish-unbound, unbound-kept, all-sources-bound, finish-written, lent-written}
 use Rattle.bench.proofs.Bench.finish.Statement.{statement}
 use Rattle.bench.proofs.Bench.finish.Tie as tie
@@ -12,10 +12,10 @@ returns : tie.Need-returns
 returns c = (search finish-unsound, search unsound-kept)
 
 unbound-on-requires : tie.Need-unbound-on-requires
-unbound-on-requires c κs = search is-sound
+unbound-on-requires c κs = search tables-sound
 
-cast-t8 : tie.Need-cast-t8
-cast-t8 c = search needs
+cast-t10 : tie.Need-cast-t10
+cast-t10 c = search needs
 
 returns-2 : tie.Need-returns-2
 returns-2 c = (search finish-unbound, search unbound-kept)
@@ -36,7 +36,7 @@ finish-spec =
     is-sound-requires
     returns
     unbound-on-requires
-    cast-t8
+    cast-t10
     returns-2
     write-requires
     same-length

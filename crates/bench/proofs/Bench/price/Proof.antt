@@ -1,6 +1,6 @@
 -- `bench::Bench::price` meets its contract.
 use borrow.Author.Needs.{needs}
-use Rattle.bench.proofs.Binds.{is-sound}
+use Rattle.bench.proofs.Binds.{tables-sound}
 use Rattle.bench.proofs.Pricing.{price-refused, price-counted}
 use Rattle.bench.proofs.Bench.price.Statement.{statement}
 use Rattle.bench.proofs.Bench.price.Tie as tie
@@ -12,7 +12,7 @@ returns : tie.Need-returns
 returns c = search price-refused
 
 glue-on-requires : tie.Need-glue-on-requires
-glue-on-requires c κs = search is-sound
+glue-on-requires c κs = search tables-sound
 
 returns-2 : tie.Need-returns-2
 returns-2 c = search price-counted

@@ -1,6 +1,6 @@
 -- `bench::faults::bind_fault` meets its contract.
 use borrow.Author.Needs.{needs}
-use Rattle.bench.proofs.Binds.{is-sound, bind-unsound, bad-word, bind-absent, source-there, bind-taken, bind-free}
+use Rattle.bench.proofs.Binds.{is-sound, tables-sound, bind-unsound, bad-word, bind-absent, source-there, bind-taken, bind-free}
 use Rattle.bench.proofs.faults.bind_fault.Statement.{statement}
 use Rattle.bench.proofs.faults.bind_fault.Tie as tie
 
@@ -17,7 +17,7 @@ returns-2 : tie.Need-returns-2
 returns-2 c = search bad-word
 
 in-tables-requires : tie.Need-in-tables-requires
-in-tables-requires c κs = search is-sound
+in-tables-requires c κs = search tables-sound
 
 returns-3 : tie.Need-returns-3
 returns-3 c = search bind-absent

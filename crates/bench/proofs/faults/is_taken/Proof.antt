@@ -1,12 +1,13 @@
 -- `bench::faults::is_taken` meets its contract.
 use borrow.Author.Needs.{needs}
+use Rattle.soundness.proofs.Soundness.{sound-tables}
 use Rattle.bench.proofs.Binds.{entry-there, by-bound}
 use Rattle.bench.proofs.Shapes.{shaped}
 use Rattle.bench.proofs.faults.is_taken.Statement.{statement}
 use Rattle.bench.proofs.faults.is_taken.Tie as tie
 
 entry-for-requires : tie.Need-entry-for-requires
-entry-for-requires c κs = search needs
+entry-for-requires c κs = search sound-tables
 
 mul-result : tie.Need-mul-result
 mul-result c = search needs

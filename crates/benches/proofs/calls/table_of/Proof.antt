@@ -1,13 +1,11 @@
 -- `benches::calls::table_of` meets its contract.
 use Prim.Native.Nat.{_≤_, _-_}
-use lib.ListN.{length}
-use mathlib.Core.Path.{_≡_}
 use borrow.Author.Needs.{needs}
 use Rattle.benches.proofs.calls.table_of.Statement.{statement}
 use Rattle.benches.proofs.calls.table_of.Tie as tie
 
 abbrev Inv-loop : tie.InvT-loop
-Inv-loop from words table₀ i₀ table i = (i ≤ 27) × (length table ≡ 27)
+Inv-loop from words table₀ i₀ table i = i ≤ 27
 
 abbrev μ-loop : tie.MeasureT-loop
 μ-loop from words table₀ i₀ table i = 27 - i

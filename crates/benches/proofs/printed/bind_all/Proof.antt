@@ -5,43 +5,28 @@ use Rattle.benches.proofs.printed.bind_all.Statement.{statement}
 use Rattle.benches.proofs.printed.bind_all.Tie as tie
 
 abbrev Inv-loop : tie.InvT-loop
-Inv-loop bench₀ i₀ t7 bench i = i ≤ 4
+Inv-loop bench₀ i₀ bench i = i ≤ 4
 
 abbrev μ-loop : tie.MeasureT-loop
-μ-loop bench₀ i₀ t7 bench i = 4 - i
+μ-loop bench₀ i₀ bench i = 4 - i
 
 loop-holds : tie.Need-loop-holds Inv-loop μ-loop
 loop-holds c = search needs
 
-mul-bind : tie.Need-mul-bind Inv-loop μ-loop
-mul-bind c = search needs
+mul-show-bind : tie.Need-mul-show-bind Inv-loop μ-loop
+mul-show-bind c = search needs
 
-array-read-bind : tie.Need-array-read-bind Inv-loop μ-loop
-array-read-bind c = search needs
+array-read-show-bind : tie.Need-array-read-show-bind Inv-loop μ-loop
+array-read-show-bind c = search needs
 
-bind-requires : tie.Need-bind-requires Inv-loop μ-loop
-bind-requires c κs = search needs
+mul-show-bind-2 : tie.Need-mul-show-bind-2 Inv-loop μ-loop
+mul-show-bind-2 c = search needs
 
-slice-aggregate-word : tie.Need-slice-aggregate-word Inv-loop μ-loop
-slice-aggregate-word c = search needs
+array-read-show-bind-2 : tie.Need-array-read-show-bind-2 Inv-loop μ-loop
+array-read-show-bind-2 c = search needs
 
-mul-word : tie.Need-mul-word Inv-loop μ-loop
-mul-word c = search needs
-
-array-read-word : tie.Need-array-read-word Inv-loop μ-loop
-array-read-word c = search needs
-
-word-requires : tie.Need-word-requires Inv-loop μ-loop
-word-requires c κs = search needs
-
-mul-show-step : tie.Need-mul-show-step Inv-loop μ-loop
-mul-show-step c = search needs
-
-array-read-show-step : tie.Need-array-read-show-step Inv-loop μ-loop
-array-read-show-step c = search needs
-
-show-step-requires : tie.Need-show-step-requires Inv-loop μ-loop
-show-step-requires c κs = search needs
+show-bind-requires : tie.Need-show-bind-requires Inv-loop μ-loop
+show-bind-requires c κs = search needs
 
 add-i : tie.Need-add-i Inv-loop μ-loop
 add-i c = search needs
@@ -62,16 +47,11 @@ bind-all-spec =
     Inv-loop
     μ-loop
     loop-holds
-    mul-bind
-    array-read-bind
-    bind-requires
-    slice-aggregate-word
-    mul-word
-    array-read-word
-    word-requires
-    mul-show-step
-    array-read-show-step
-    show-step-requires
+    mul-show-bind
+    array-read-show-bind
+    mul-show-bind-2
+    array-read-show-bind-2
+    show-bind-requires
     add-i
     loop-less
     loop-again

@@ -10,47 +10,26 @@ Inv-loop run₀ i₀ run i = i ≤ 4
 abbrev μ-loop : tie.MeasureT-loop
 μ-loop run₀ i₀ run i = 4 - i
 
+begun-requires : tie.Need-begun-requires Inv-loop μ-loop
+begun-requires c κs = search needs
+
 loop-holds : tie.Need-loop-holds Inv-loop μ-loop
 loop-holds c = search needs
 
-with-each-refused-requires : tie.Need-with-each-refused-requires Inv-loop μ-loop
-with-each-refused-requires c κs = search needs
+mul-with-step : tie.Need-mul-with-step Inv-loop μ-loop
+mul-with-step c = search needs
 
-finish-requires : tie.Need-finish-requires Inv-loop μ-loop
-finish-requires c κs = search needs
+array-read-with-step : tie.Need-array-read-with-step Inv-loop μ-loop
+array-read-with-step c = search needs
 
-mul-answered : tie.Need-mul-answered Inv-loop μ-loop
-mul-answered c = search needs
+mul-with-step-2 : tie.Need-mul-with-step-2 Inv-loop μ-loop
+mul-with-step-2 c = search needs
 
-array-read-answered : tie.Need-array-read-answered Inv-loop μ-loop
-array-read-answered c = search needs
+array-read-with-step-2 : tie.Need-array-read-with-step-2 Inv-loop μ-loop
+array-read-with-step-2 c = search needs
 
-answered-requires : tie.Need-answered-requires Inv-loop μ-loop
-answered-requires c κs = search needs
-
-same-answer-requires : tie.Need-same-answer-requires Inv-loop μ-loop
-same-answer-requires c κs = search needs
-
-noted-requires : tie.Need-noted-requires Inv-loop μ-loop
-noted-requires c κs = search needs
-
-mul-with-bound : tie.Need-mul-with-bound Inv-loop μ-loop
-mul-with-bound c = search needs
-
-array-read-with-bound : tie.Need-array-read-with-bound Inv-loop μ-loop
-array-read-with-bound c = search needs
-
-with-bound-requires : tie.Need-with-bound-requires Inv-loop μ-loop
-with-bound-requires c κs = search needs
-
-mul-with-refused : tie.Need-mul-with-refused Inv-loop μ-loop
-mul-with-refused c = search needs
-
-array-read-with-refused : tie.Need-array-read-with-refused Inv-loop μ-loop
-array-read-with-refused c = search needs
-
-with-refused-requires : tie.Need-with-refused-requires Inv-loop μ-loop
-with-refused-requires c κs = search needs
+with-step-requires : tie.Need-with-step-requires Inv-loop μ-loop
+with-step-requires c κs = search needs
 
 add-i : tie.Need-add-i Inv-loop μ-loop
 add-i c = search needs
@@ -70,20 +49,13 @@ with-steps-spec =
     (tie.spec
     Inv-loop
     μ-loop
+    begun-requires
     loop-holds
-    with-each-refused-requires
-    finish-requires
-    mul-answered
-    array-read-answered
-    answered-requires
-    same-answer-requires
-    noted-requires
-    mul-with-bound
-    array-read-with-bound
-    with-bound-requires
-    mul-with-refused
-    array-read-with-refused
-    with-refused-requires
+    mul-with-step
+    array-read-with-step
+    mul-with-step-2
+    array-read-with-step-2
+    with-step-requires
     add-i
     loop-less
     loop-again

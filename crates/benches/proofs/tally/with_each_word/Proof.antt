@@ -5,10 +5,10 @@ use Rattle.benches.proofs.tally.with_each_word.Statement.{statement}
 use Rattle.benches.proofs.tally.with_each_word.Tie as tie
 
 abbrev Inv-loop : tie.InvT-loop
-Inv-loop bench all₀ i₀ t7 t8 all i = i ≤ 1701
+Inv-loop bench all₀ i₀ all i = i ≤ 1701
 
 abbrev μ-loop : tie.MeasureT-loop
-μ-loop bench all₀ i₀ t7 t8 all i = 1701 - i
+μ-loop bench all₀ i₀ all i = 1701 - i
 
 empty-requires : tie.Need-empty-requires Inv-loop μ-loop
 empty-requires c κs = search needs
@@ -16,20 +16,8 @@ empty-requires c κs = search needs
 loop-holds : tie.Need-loop-holds Inv-loop μ-loop
 loop-holds c = search needs
 
-slice-aggregate-at : tie.Need-slice-aggregate-at Inv-loop μ-loop
-slice-aggregate-at c = search needs
-
-at-requires : tie.Need-at-requires Inv-loop μ-loop
-at-requires c κs = search needs
-
-slice-aggregate-at-2 : tie.Need-slice-aggregate-at-2 Inv-loop μ-loop
-slice-aggregate-at-2 c = search needs
-
-wrapping-sub-usize-requires : tie.Need-wrapping-sub-usize-requires Inv-loop μ-loop
-wrapping-sub-usize-requires c κs = search needs
-
-at-requires-2 : tie.Need-at-requires-2 Inv-loop μ-loop
-at-requires-2 c κs = search needs
+printed-word-requires : tie.Need-printed-word-requires Inv-loop μ-loop
+printed-word-requires c κs = search needs
 
 mul-words : tie.Need-mul-words Inv-loop μ-loop
 mul-words c = search needs
@@ -60,11 +48,7 @@ with-each-word-spec =
     μ-loop
     empty-requires
     loop-holds
-    slice-aggregate-at
-    at-requires
-    slice-aggregate-at-2
-    wrapping-sub-usize-requires
-    at-requires-2
+    printed-word-requires
     mul-words
     array-write-words
     with-requires

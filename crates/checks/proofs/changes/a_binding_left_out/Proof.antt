@@ -5,10 +5,10 @@ use Rattle.checks.proofs.changes.a_binding_left_out.Statement.{statemen
 use Rattle.checks.proofs.changes.a_binding_left_out.Tie as tie
 
 abbrev Inv-loop : tie.InvT-loop
-Inv-loop n both all₀ place₀ all place = place ≤ 5
+Inv-loop n both all₀ index₀ all index = index ≤ 5
 
 abbrev μ-loop : tie.MeasureT-loop
-μ-loop n both all₀ place₀ all place = 5 - place
+μ-loop n both all₀ index₀ all index = 5 - index
 
 printed-at-requires : tie.Need-printed-at-requires Inv-loop μ-loop
 printed-at-requires c κs = search needs
@@ -19,26 +19,14 @@ none-requires c κs = search needs
 loop-holds : tie.Need-loop-holds Inv-loop μ-loop
 loop-holds c = search needs
 
-slice-aggregate-without : tie.Need-slice-aggregate-without Inv-loop μ-loop
-slice-aggregate-without c = search needs
+slice-aggregate-with-left-out : tie.Need-slice-aggregate-with-left-out Inv-loop μ-loop
+slice-aggregate-with-left-out c = search needs
 
-without-requires : tie.Need-without-requires Inv-loop μ-loop
-without-requires c κs = search needs
+with-left-out-requires : tie.Need-with-left-out-requires Inv-loop μ-loop
+with-left-out-requires c κs = search needs
 
-slice-aggregate-first : tie.Need-slice-aggregate-first Inv-loop μ-loop
-slice-aggregate-first c = search needs
-
-first-requires : tie.Need-first-requires Inv-loop μ-loop
-first-requires c κs = search needs
-
-slice-aggregate-compared : tie.Need-slice-aggregate-compared Inv-loop μ-loop
-slice-aggregate-compared c = search needs
-
-compared-requires : tie.Need-compared-requires Inv-loop μ-loop
-compared-requires c κs = search needs
-
-add-place : tie.Need-add-place Inv-loop μ-loop
-add-place c = search needs
+add-index : tie.Need-add-index Inv-loop μ-loop
+add-index c = search needs
 
 loop-less : tie.Need-loop-less Inv-loop μ-loop
 loop-less c = search needs
@@ -58,13 +46,9 @@ a-binding-left-out-spec =
     printed-at-requires
     none-requires
     loop-holds
-    slice-aggregate-without
-    without-requires
-    slice-aggregate-first
-    first-requires
-    slice-aggregate-compared
-    compared-requires
-    add-place
+    slice-aggregate-with-left-out
+    with-left-out-requires
+    add-index
     loop-less
     loop-again
     returns)

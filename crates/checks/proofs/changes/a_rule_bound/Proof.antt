@@ -19,41 +19,8 @@ none-requires c κs = search needs
 loop-holds : tie.Need-loop-holds Inv-loop μ-loop
 loop-holds c = search needs
 
-slice-aggregate-at : tie.Need-slice-aggregate-at Inv-loop μ-loop
-slice-aggregate-at c = search needs
-
-add-at : tie.Need-add-at Inv-loop μ-loop
-add-at c = search needs
-
-at-requires : tie.Need-at-requires Inv-loop μ-loop
-at-requires c κs = search needs
-
-slice-aggregate-put : tie.Need-slice-aggregate-put Inv-loop μ-loop
-slice-aggregate-put c = search needs
-
-add-put : tie.Need-add-put Inv-loop μ-loop
-add-put c = search needs
-
-add-put-2 : tie.Need-add-put-2 Inv-loop μ-loop
-add-put-2 c = search needs
-
-put-requires : tie.Need-put-requires Inv-loop μ-loop
-put-requires c κs = search needs
-
-slice-aggregate-with-both : tie.Need-slice-aggregate-with-both Inv-loop μ-loop
-slice-aggregate-with-both c = search needs
-
-with-both-requires : tie.Need-with-both-requires Inv-loop μ-loop
-with-both-requires c κs = search needs
-
-rightly-priced-requires : tie.Need-rightly-priced-requires Inv-loop μ-loop
-rightly-priced-requires c κs = search needs
-
-slice-aggregate-with-both-2 : tie.Need-slice-aggregate-with-both-2 Inv-loop μ-loop
-slice-aggregate-with-both-2 c = search needs
-
-with-both-requires-2 : tie.Need-with-both-requires-2 Inv-loop μ-loop
-with-both-requires-2 c κs = search needs
+with-rule-requires : tie.Need-with-rule-requires Inv-loop μ-loop
+with-rule-requires c κs = search needs
 
 add-i : tie.Need-add-i Inv-loop μ-loop
 add-i c = search needs
@@ -76,18 +43,7 @@ a-rule-bound-spec =
     printed-at-requires
     none-requires
     loop-holds
-    slice-aggregate-at
-    add-at
-    at-requires
-    slice-aggregate-put
-    add-put
-    add-put-2
-    put-requires
-    slice-aggregate-with-both
-    with-both-requires
-    rightly-priced-requires
-    slice-aggregate-with-both-2
-    with-both-requires-2
+    with-rule-requires
     add-i
     loop-less
     loop-again

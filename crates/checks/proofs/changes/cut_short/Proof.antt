@@ -19,23 +19,11 @@ none-requires c κs = search needs
 loop-holds : tie.Need-loop-holds Inv-loop μ-loop
 loop-holds c = search needs
 
-slice-aggregate-first : tie.Need-slice-aggregate-first Inv-loop μ-loop
-slice-aggregate-first c = search needs
+slice-aggregate-with-cut : tie.Need-slice-aggregate-with-cut Inv-loop μ-loop
+slice-aggregate-with-cut c = search needs
 
-first-requires : tie.Need-first-requires Inv-loop μ-loop
-first-requires c κs = search needs
-
-slice-aggregate-after : tie.Need-slice-aggregate-after Inv-loop μ-loop
-slice-aggregate-after c = search needs
-
-after-requires : tie.Need-after-requires Inv-loop μ-loop
-after-requires c κs = search needs
-
-first-requires-2 : tie.Need-first-requires-2 Inv-loop μ-loop
-first-requires-2 c κs = search needs
-
-compared-requires : tie.Need-compared-requires Inv-loop μ-loop
-compared-requires c κs = search needs
+with-cut-requires : tie.Need-with-cut-requires Inv-loop μ-loop
+with-cut-requires c κs = search needs
 
 add-i : tie.Need-add-i Inv-loop μ-loop
 add-i c = search needs
@@ -58,12 +46,8 @@ cut-short-spec =
     printed-at-requires
     none-requires
     loop-holds
-    slice-aggregate-first
-    first-requires
-    slice-aggregate-after
-    after-requires
-    first-requires-2
-    compared-requires
+    slice-aggregate-with-cut
+    with-cut-requires
     add-i
     loop-less
     loop-again

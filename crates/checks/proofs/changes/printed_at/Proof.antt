@@ -1,34 +1,20 @@
 -- `checks::changes::printed_at` meets its contract.
 use Prim.Native.Nat.{_≤_, _-_}
-use lib.ListN.{length}
-use mathlib.Core.Path.{_≡_}
 use borrow.Author.Needs.{needs}
 use Rattle.checks.proofs.changes.printed_at.Statement.{statement}
 use Rattle.checks.proofs.changes.printed_at.Tie as tie
 
 abbrev Inv-loop : tie.InvT-loop
-Inv-loop n words₀ i₀ t4 t5 words i = (i ≤ 20) × (length words ≡ 20)
+Inv-loop n words₀ i₀ words i = i ≤ 20
 
 abbrev μ-loop : tie.MeasureT-loop
-μ-loop n words₀ i₀ t4 t5 words i = 20 - i
+μ-loop n words₀ i₀ words i = 20 - i
 
 loop-holds : tie.Need-loop-holds Inv-loop μ-loop
 loop-holds c = search needs
 
-slice-aggregate-at : tie.Need-slice-aggregate-at Inv-loop μ-loop
-slice-aggregate-at c = search needs
-
-at-requires : tie.Need-at-requires Inv-loop μ-loop
-at-requires c κs = search needs
-
-slice-aggregate-at-2 : tie.Need-slice-aggregate-at-2 Inv-loop μ-loop
-slice-aggregate-at-2 c = search needs
-
-wrapping-sub-usize-requires : tie.Need-wrapping-sub-usize-requires Inv-loop μ-loop
-wrapping-sub-usize-requires c κs = search needs
-
-at-requires-2 : tie.Need-at-requires-2 Inv-loop μ-loop
-at-requires-2 c κs = search needs
+printed-word-requires : tie.Need-printed-word-requires Inv-loop μ-loop
+printed-word-requires c κs = search needs
 
 mul-words : tie.Need-mul-words Inv-loop μ-loop
 mul-words c = search needs
@@ -64,11 +50,7 @@ printed-at-spec =
     Inv-loop
     μ-loop
     loop-holds
-    slice-aggregate-at
-    at-requires
-    slice-aggregate-at-2
-    wrapping-sub-usize-requires
-    at-requires-2
+    printed-word-requires
     mul-words
     array-write-words
     add-i

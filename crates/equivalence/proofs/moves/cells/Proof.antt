@@ -4,7 +4,7 @@ use mathlib.Core.Path.{_≡_, refl, _∙_}
 use Prim.Native.Nat.{ℕ, _-_, _≤_, _<_}
 use native.Mathlib.Omega.{arith}
 use lib.ListN.{length, getD, length-set}
-use Rattle.equivalence.specs.Search.{cellAt, noCell}
+use Rattle.equivalence.specs.Sets.{cellAt, noCell}
 use Rattle.equivalence.proofs.Places.{filled}
 use Rattle.equivalence.proofs.moves.cells.Statement.{statement}
 use Rattle.equivalence.proofs.moves.cells.Tie as tie

@@ -4,7 +4,7 @@ use mathlib.Core.Path.{_≡_, refl, _∙_}
 use Prim.Native.Nat.{ℕ, _-_, _≤_, _<_}
 use native.Mathlib.Omega.{arith}
 use lib.ListN.{length, getD, length-set}
-use Rattle.equivalence.specs.Search.{moveBy, topBy}
+use Rattle.equivalence.specs.Sets.{moveBy, topBy}
 use Rattle.equivalence.proofs.Places.{fromCells, filled, tabled-from}
 use Rattle.equivalence.proofs.moves.tabulate.Statement.{statement}
 use Rattle.equivalence.proofs.moves.tabulate.Tie as tie

@@ -6,7 +6,7 @@ use mathlib.Core.Path.{_≡_, refl, sym, _∙_}
 use Prim.Native.Nat.{ℕ, _+_, _-_, _≤_, _<_}
 use native.Mathlib.Omega.{arith}
 use lib.ListN.{length, getD, length-set, replicate}
-use Rattle.equivalence.specs.Search.{failing}
+use Rattle.equivalence.specs.Sets.{failing}
 use Rattle.equivalence.proofs.rounds.failing_sets.Statement.{statement}
 use Rattle.equivalence.proofs.rounds.failing_sets.Tie as tie
 

@@ -3,8 +3,8 @@ use borrow.Author.Needs.{needs}
 use mathlib.Core.Path.{_≡_}
 use Prim.Native.Nat.{_-_, _≤_}
 use native.Mathlib.Omega.{arith}
-use Rattle.alu.specs.Bits.{word}
-use Rattle.equivalence.specs.Search.{someFails}
+use Rattle.bits.specs.Bits.{word}
+use Rattle.equivalence.specs.Sets.{someFails}
 use Rattle.equivalence.proofs.Sets.{round-start, round-next, round-fits, round-done}
 use Rattle.equivalence.proofs.rounds.round.Statement.{statement}
 use Rattle.equivalence.proofs.rounds.round.Tie as tie

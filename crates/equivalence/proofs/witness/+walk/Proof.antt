@@ -4,7 +4,7 @@ use Prim.Native.Nat.{ℕ, _-_, _<_}
 use native.Mathlib.Omega.{arith}
 use borrow.Fn.Kinds.{In}
 use borrow.Fn.PlainCycle.{Measures, is, falls, and}
-use Rattle.equivalence.specs.Search.{Stepped}
+use Rattle.equivalence.specs.Sets.{Stepped}
 use Rattle.equivalence.specs.declared.witness.Step.the-variants.{Ends, Leads}
 use Rattle.equivalence.proofs.Walks.{in-arm, ends-there, leads-there, rest-fits}
 use Rattle.equivalence.proofs.witness.walk.Reads as walk

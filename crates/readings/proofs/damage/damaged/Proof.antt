@@ -18,8 +18,8 @@ draw-requires c κs = search needs
 loop-holds : tie.Need-loop-holds Inv-loop μ-loop
 loop-holds c = search needs
 
-draw-place-requires : tie.Need-draw-place-requires Inv-loop μ-loop
-draw-place-requires c κs = search needs
+draw-index-requires : tie.Need-draw-index-requires Inv-loop μ-loop
+draw-index-requires c κs = search needs
 
 damage-requires : tie.Need-damage-requires Inv-loop μ-loop
 damage-requires c κs = search needs
@@ -47,7 +47,7 @@ damaged-spec =
     μ-loop
     draw-requires
     loop-holds
-    draw-place-requires
+    draw-index-requires
     damage-requires
     add-i
     loop-less

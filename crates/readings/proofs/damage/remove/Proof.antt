@@ -1,5 +1,5 @@
 -- `readings::damage::remove` meets its contract.
-use Prim.Native.Nat.{_≤_, _-_}
+use Prim.Native.Nat.{_-_}
 use lib.ListN.{length}
 use mathlib.Core.Path.{_≡_}
 use borrow.Author.Needs.{needs}
@@ -7,10 +7,10 @@ use Rattle.readings.proofs.damage.remove.Statement.{statement}
 use Rattle.readings.proofs.damage.remove.Tie as tie
 
 abbrev Inv-loop : tie.InvT-loop
-Inv-loop words₀ place n i₀ words i = (0 ≤ i) × (length words ≡ length words₀)
+Inv-loop words₀ index n i₀ words i = length words ≡ length words₀
 
 abbrev μ-loop : tie.MeasureT-loop
-μ-loop words₀ place n i₀ words i = n - i
+μ-loop words₀ index n i₀ words i = n - i
 
 loop-holds : tie.Need-loop-holds Inv-loop μ-loop
 loop-holds c = search needs

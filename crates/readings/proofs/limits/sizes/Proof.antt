@@ -1,15 +1,14 @@
 -- `readings::limits::sizes` meets its contract.
 use Prim.Native.Nat.{_≤_, _-_}
-use lib.ListN.{length}
 use borrow.Author.Needs.{needs}
 use Rattle.readings.proofs.limits.sizes.Statement.{statement}
 use Rattle.readings.proofs.limits.sizes.Tie as tie
 
 abbrev Inv-loop : tie.InvT-loop
-Inv-loop of-job rows all₀ i₀ all i = i ≤ length rows
+Inv-loop from to all₀ i₀ all i = 0 ≤ i
 
 abbrev μ-loop : tie.MeasureT-loop
-μ-loop of-job rows all₀ i₀ all i = length rows - i
+μ-loop from to all₀ i₀ all i = to - i
 
 no-numbers-requires : tie.Need-no-numbers-requires Inv-loop μ-loop
 no-numbers-requires c κs = search needs
@@ -17,14 +16,8 @@ no-numbers-requires c κs = search needs
 loop-holds : tie.Need-loop-holds Inv-loop μ-loop
 loop-holds c = search needs
 
-mul-sized : tie.Need-mul-sized Inv-loop μ-loop
-mul-sized c = search needs
-
-shared-slice-read-sized : tie.Need-shared-slice-read-sized Inv-loop μ-loop
-shared-slice-read-sized c = search needs
-
-sized-requires : tie.Need-sized-requires Inv-loop μ-loop
-sized-requires c κs = search needs
+with-size-requires : tie.Need-with-size-requires Inv-loop μ-loop
+with-size-requires c κs = search needs
 
 add-i : tie.Need-add-i Inv-loop μ-loop
 add-i c = search needs
@@ -46,9 +39,7 @@ sizes-spec =
     μ-loop
     no-numbers-requires
     loop-holds
-    mul-sized
-    shared-slice-read-sized
-    sized-requires
+    with-size-requires
     add-i
     loop-less
     loop-again

@@ -1,27 +1,23 @@
 -- `readings::limits::words` meets its contract.
 use Prim.Native.Nat.{_≤_, _-_}
-use lib.ListN.{length}
 use borrow.Author.Needs.{needs}
 use Rattle.readings.proofs.limits.words.Statement.{statement}
 use Rattle.readings.proofs.limits.words.Tie as tie
 
 abbrev Inv-loop : tie.InvT-loop
-Inv-loop of-job rows all₀ i₀ all i = i ≤ length rows
+Inv-loop from to all₀ i₀ all i = 0 ≤ i
 
 abbrev μ-loop : tie.MeasureT-loop
-μ-loop of-job rows all₀ i₀ all i = length rows - i
+μ-loop from to all₀ i₀ all i = to - i
+
+no-numbers-requires : tie.Need-no-numbers-requires Inv-loop μ-loop
+no-numbers-requires c κs = search needs
 
 loop-holds : tie.Need-loop-holds Inv-loop μ-loop
 loop-holds c = search needs
 
-mul-replaced : tie.Need-mul-replaced Inv-loop μ-loop
-mul-replaced c = search needs
-
-shared-slice-read-replaced : tie.Need-shared-slice-read-replaced Inv-loop μ-loop
-shared-slice-read-replaced c = search needs
-
-replaced-requires : tie.Need-replaced-requires Inv-loop μ-loop
-replaced-requires c κs = search needs
+with-word-requires : tie.Need-with-word-requires Inv-loop μ-loop
+with-word-requires c κs = search needs
 
 add-i : tie.Need-add-i Inv-loop μ-loop
 add-i c = search needs
@@ -41,10 +37,9 @@ words-spec =
     (tie.spec
     Inv-loop
     μ-loop
+    no-numbers-requires
     loop-holds
-    mul-replaced
-    shared-slice-read-replaced
-    replaced-requires
+    with-word-requires
     add-i
     loop-less
     loop-again

@@ -16,11 +16,11 @@ no-numbers-requires c κs = search needs
 loop-holds : tie.Need-loop-holds Inv-loop μ-loop
 loop-holds c = search needs
 
-cast-of-kind : tie.Need-cast-of-kind Inv-loop μ-loop
-cast-of-kind c = search needs
+cast-with-kind : tie.Need-cast-with-kind Inv-loop μ-loop
+cast-with-kind c = search needs
 
-of-kind-requires : tie.Need-of-kind-requires Inv-loop μ-loop
-of-kind-requires c κs = search needs
+with-kind-requires : tie.Need-with-kind-requires Inv-loop μ-loop
+with-kind-requires c κs = search needs
 
 add-i : tie.Need-add-i Inv-loop μ-loop
 add-i c = search needs
@@ -42,8 +42,8 @@ every-place-spec =
     μ-loop
     no-numbers-requires
     loop-holds
-    cast-of-kind
-    of-kind-requires
+    cast-with-kind
+    with-kind-requires
     add-i
     loop-less
     loop-again

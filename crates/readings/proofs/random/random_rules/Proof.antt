@@ -7,43 +7,34 @@ use Rattle.readings.proofs.random.random_rules.Statement.{statement}
 use Rattle.readings.proofs.random.random_rules.Tie as tie
 
 abbrev Inv-loop : tie.InvT-loop
-Inv-loop words₀ from state₀ many count place₀ i₀ words state place i = (i ≤ count) × (length words ≡ length words₀)
+Inv-loop words₀ from state₀ most count i₀ words state i = (i ≤ count) × (length words ≡ length words₀)
 
 abbrev μ-loop : tie.MeasureT-loop
-μ-loop words₀ from state₀ many count place₀ i₀ words state place i = count - i
+μ-loop words₀ from state₀ most count i₀ words state i = count - i
 
 draw-requires : tie.Need-draw-requires Inv-loop μ-loop
 draw-requires c κs = search needs
 
-number-requires : tie.Need-number-requires Inv-loop μ-loop
-number-requires c κs = search needs
-
-mul-draw : tie.Need-mul-draw Inv-loop μ-loop
-mul-draw c = search needs
-
-add-draw : tie.Need-add-draw Inv-loop μ-loop
-add-draw c = search needs
-
 draw-requires-2 : tie.Need-draw-requires-2 Inv-loop μ-loop
 draw-requires-2 c κs = search needs
+
+cast-count : tie.Need-cast-count Inv-loop μ-loop
+cast-count c = search needs
 
 loop-holds : tie.Need-loop-holds Inv-loop μ-loop
 loop-holds c = search needs
 
-draw-requires-3 : tie.Need-draw-requires-3 Inv-loop μ-loop
-draw-requires-3 c κs = search needs
-
-add-function : tie.Need-add-function Inv-loop μ-loop
-add-function c = search needs
+draw-from-requires : tie.Need-draw-from-requires Inv-loop μ-loop
+draw-from-requires c κs = search needs
 
 random-word-requires : tie.Need-random-word-requires Inv-loop μ-loop
 random-word-requires c κs = search needs
 
-put-requires : tie.Need-put-requires Inv-loop μ-loop
-put-requires c κs = search needs
-
 wrapping-add-usize-requires : tie.Need-wrapping-add-usize-requires Inv-loop μ-loop
 wrapping-add-usize-requires c κs = search needs
+
+put-requires : tie.Need-put-requires Inv-loop μ-loop
+put-requires c κs = search needs
 
 add-i : tie.Need-add-i Inv-loop μ-loop
 add-i c = search needs
@@ -53,6 +44,9 @@ loop-less c = search needs
 
 loop-again : tie.Need-loop-again Inv-loop μ-loop
 loop-again c = search needs
+
+wrapping-add-usize-requires-2 : tie.Need-wrapping-add-usize-requires-2 Inv-loop μ-loop
+wrapping-add-usize-requires-2 c κs = search needs
 
 same-length : tie.Need-same-length Inv-loop μ-loop
 same-length c = search needs
@@ -67,18 +61,16 @@ random-rules-spec =
     Inv-loop
     μ-loop
     draw-requires
-    number-requires
-    mul-draw
-    add-draw
     draw-requires-2
+    cast-count
     loop-holds
-    draw-requires-3
-    add-function
+    draw-from-requires
     random-word-requires
-    put-requires
     wrapping-add-usize-requires
+    put-requires
     add-i
     loop-less
     loop-again
+    wrapping-add-usize-requires-2
     same-length
     returns)

@@ -5,10 +5,10 @@ use Rattle.verdicts.proofs.nine.together.Statement.{statement}
 use Rattle.verdicts.proofs.nine.together.Tie as tie
 
 abbrev Inv-loop : tie.InvT-loop
-Inv-loop all others tally other right₀ added k₀ right k = k ≤ 9
+Inv-loop counts₀ added k₀ counts k = k ≤ 15
 
 abbrev μ-loop : tie.MeasureT-loop
-μ-loop all others tally other right₀ added k₀ right k = 9 - k
+μ-loop counts₀ added k₀ counts k = 15 - k
 
 loop-holds : tie.Need-loop-holds Inv-loop μ-loop
 loop-holds c = search needs
@@ -28,11 +28,11 @@ array-read-wrapping-add-u64-2 c = search needs
 wrapping-add-u64-requires : tie.Need-wrapping-add-u64-requires Inv-loop μ-loop
 wrapping-add-u64-requires c κs = search needs
 
-mul-right : tie.Need-mul-right Inv-loop μ-loop
-mul-right c = search needs
+mul-counts : tie.Need-mul-counts Inv-loop μ-loop
+mul-counts c = search needs
 
-array-write-right : tie.Need-array-write-right Inv-loop μ-loop
-array-write-right c = search needs
+array-write-counts : tie.Need-array-write-counts Inv-loop μ-loop
+array-write-counts c = search needs
 
 add-k : tie.Need-add-k Inv-loop μ-loop
 add-k c = search needs
@@ -42,24 +42,6 @@ loop-less c = search needs
 
 loop-again : tie.Need-loop-again Inv-loop μ-loop
 loop-again c = search needs
-
-wrapping-add-u64-requires-2 : tie.Need-wrapping-add-u64-requires-2 Inv-loop μ-loop
-wrapping-add-u64-requires-2 c κs = search needs
-
-wrapping-add-u64-requires-3 : tie.Need-wrapping-add-u64-requires-3 Inv-loop μ-loop
-wrapping-add-u64-requires-3 c κs = search needs
-
-wrapping-add-u64-requires-4 : tie.Need-wrapping-add-u64-requires-4 Inv-loop μ-loop
-wrapping-add-u64-requires-4 c κs = search needs
-
-wrapping-add-u64-requires-5 : tie.Need-wrapping-add-u64-requires-5 Inv-loop μ-loop
-wrapping-add-u64-requires-5 c κs = search needs
-
-wrapping-add-u64-requires-6 : tie.Need-wrapping-add-u64-requires-6 Inv-loop μ-loop
-wrapping-add-u64-requires-6 c κs = search needs
-
-wrapping-add-u64-requires-7 : tie.Need-wrapping-add-u64-requires-7 Inv-loop μ-loop
-wrapping-add-u64-requires-7 c κs = search needs
 
 returns : tie.Need-returns Inv-loop μ-loop
 returns c = search needs
@@ -76,15 +58,9 @@ together-spec =
     mul-wrapping-add-u64-2
     array-read-wrapping-add-u64-2
     wrapping-add-u64-requires
-    mul-right
-    array-write-right
+    mul-counts
+    array-write-counts
     add-k
     loop-less
     loop-again
-    wrapping-add-u64-requires-2
-    wrapping-add-u64-requires-3
-    wrapping-add-u64-requires-4
-    wrapping-add-u64-requires-5
-    wrapping-add-u64-requires-6
-    wrapping-add-u64-requires-7
     returns)

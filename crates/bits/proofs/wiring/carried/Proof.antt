@@ -1,0 +1,17 @@
+-- `bits::wiring::carried` meets its contract.
+use borrow.Author.Needs.{needs}
+use Rattle.bits.proofs.Wirings.{carried-past}
+use Rattle.bits.proofs.wiring.carried.Statement.{statement}
+use Rattle.bits.proofs.wiring.carried.Tie as tie
+
+returns : tie.Need-returns
+returns c = search carried-past
+
+array-read-result : tie.Need-array-read-result
+array-read-result c = search needs
+
+returns-2 : tie.Need-returns-2
+returns-2 c = search needs
+
+pub carried-spec : {M : Type 1} → statement M
+carried-spec = tie.close (tie.spec returns array-read-result returns-2)

@@ -1,0 +1,64 @@
+-- The choice: one source, and the end of the loop.
+use mathlib.Core.Path.{_≡_, refl, sym, ap, _∙_}
+use mathlib.Core.Bool.{Bool, true, false}
+use mathlib.Core.List.{List, [], _∷_, _++_}
+use Prim.Native.Nat.{ℕ, _+_, _≤_, _<_}
+use native.Mathlib.Numerals.{add-one}
+use native.Mathlib.Omega.{arith}
+use lib.Bits.{bitOr}
+use lib.ListN.{length, take, drop, getD, set, drop-of-length-le}
+use lib.Seq.{take-suc-set}
+use Rattle.words.specs.Choice.{if_then_else_}
+use Rattle.words.specs.Field.{sourceFunction}
+use Rattle.words.proofs.Lists.{drop-next}
+use Rattle.reader.specs.declared.Job.{Job}
+use Rattle.table.specs.Parts.{Terms, termsWith}
+use Rattle.usage.specs.Sets.{usage, usageOf}
+use Rattle.usage.proofs.Joining.{usage-more}
+use Rattle.glue.proofs.Joining.{glue-more}
+use Rattle.best.specs.Best.{noRule, bestOf}
+use Rattle.choice.specs.Choose.{Choice, Mapped, Unmappable, withRule, choose}
+use Rattle.best.specs.Beside.{besides}
+use Rattle.best.specs.declared.Best.{Best}
+use Rattle.best.proofs.Choosing.{best-same}
+
+module _ (j : Job) (ss ts rules sources words : List ℕ) (i used : ℕ) (whole : Choice)
+    (eu : used ≡ usage (take i words)) (e : choose (termsWith j ss ts) rules (take i words) (drop i sources) ≡ whole) where
+  abbrev t : Terms
+  t = termsWith j ss ts
+
+  module _ (h : i < length sources) (f : ℕ) (ef : f ≡ sourceFunction (getD sources i 0)) (best : Best)
+      (eb : best ≡ bestOf (besides (j .width) (j .prices) used) (termsWith j ss ts) f noRule rules) where
+    best-is : bestOf (withRule t (take i words)) t (sourceFunction (getD sources i 0)) noRule rules ≡ best
+    best-is =
+        best-same t (sourceFunction (getD sources i 0)) (withRule t (take i words)) (besides (j .width) (j .prices) used)
+        (λ w. sym (glue-more (j .width) (j .prices) (take i words) w) ∙ ap (λ (x : ℕ). besides (j .width) (j .prices) x w) (sym eu)) noRule rules
+        ∙ ap (λ (x : ℕ). bestOf (besides (j .width) (j .prices) used) t x noRule rules) (sym ef) ∙ sym eb
+
+    opened : (if best .found then choose t rules (take i words ++ best .word ∷ []) (drop (i + 1) sources) else Unmappable f) ≡ whole
+    unfolding choose
+    opened =
+        sym (ap (λ (b : Best). if b .found then choose t rules (take i words ++ b .word ∷ []) (drop (i + 1) sources)
+        else Unmappable (sourceFunction (getD sources i 0))) best-is
+        ∙ ap (λ (x : ℕ). if best .found then choose t rules (take i words ++ best .word ∷ []) (drop (i + 1) sources) else Unmappable x) (sym ef))
+        ∙ (rw (drop-next sources i h) at e)
+
+    one-more : i < length words → take (i + 1) (set words i (best .word)) ≡ take i words ++ best .word ∷ []
+    one-more l = rw add-one (take-suc-set words i (best .word) l)
+
+    pub source-bound : best .found ≡ true → i < length words
+        → choose (termsWith j ss ts) rules (take (i + 1) (set words i (best .word))) (drop (i + 1) sources) ≡ whole
+    source-bound hb l = rw (one-more l) (rw hb at opened)
+
+    pub source-used : (u : ℕ) → i < length words → u ≡ usageOf (best .word) → bitOr used u ≡ usage (take (i + 1) (set words i (best .word)))
+    source-used u l v = rw (one-more l) (rw (usage-more (take i words) (best .word)) (rw (eu, v) refl))
+
+    pub source-unmappable : best .found ≡ false → Unmappable f ≡ whole
+    source-unmappable hb = rw hb at opened
+
+  pub all-sources : (mapped : Bool) (f : ℕ) → length sources ≤ i → i ≤ length sources → mapped ≡ true
+      → (if mapped then Mapped (take (length sources) words) else Unmappable f) ≡ whole
+  unfolding choose
+  all-sources mapped f l h hm =
+      let k : i ≡ length sources = omega arith in
+      rw hm (ap (λ (x : ℕ). Mapped (take x words)) (sym k) ∙ (rw (drop-of-length-le sources l) at e))

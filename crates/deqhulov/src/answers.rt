@@ -1,0 +1,55 @@
+// Each call's answer in document 01's numbers.
+use checker::Checked;
+use mapper::Answer;
+use report::Report;
+use verdict::Judgement;
+use verdict::Verdict;
+ghost use mathlib.Core.Path.{_≡_};
+ghost use Prim.Native.Nat.{_≤_};
+ghost use lib.ListN.{length};
+ghost use Rattle.verdict.specs.Verdicts as J;
+ghost use Rattle.mapper.specs.Mapping as M;
+ghost use Rattle.checker.specs.Check as C;
+ghost use Rattle.report.specs.Told as D;
+
+// The mapper's answer.
+pub fn of_mapping(answer: Answer) -> Report
+    ensures { λ r. ⌜ (D.paper r ≡ M.paperOf answer) × (r .count ≤ length (r .values)) ⌝ }
+{
+    match answer {
+        Answer::Mapping(words) => report::with_value(report::NONE, words as u64),
+        Answer::Refused(refusal) => report::refused(refusal),
+    }
+}
+
+// The checker's answer.
+pub fn of_check(checked: Checked) -> Report
+    ensures { λ r. ⌜ (D.paper r ≡ C.paperOf checked) × (r .count ≤ length (r .values)) ⌝ }
+{
+    match checked {
+        Checked::Accepted => report::refused(report::NONE),
+        Checked::JobRefused(refusal) => report::with_value(refusal, 0),
+        Checked::MappingRefused(refusal) => report::with_value(refusal, 1),
+        Checked::Refused(refusal) => report::refused(refusal),
+        Checked::Wrong(witness) => report::wrong(witness),
+    }
+}
+
+fn of_verdict(verdict: Verdict) -> Report
+    ensures { λ r. ⌜ (D.paper r ≡ J.verdictPaper verdict) × (r .count ≤ length (r .values)) ⌝ }
+{
+    match verdict {
+        Verdict::Right => report::refused(report::NONE),
+        Verdict::Wrong(witness) => report::wrong(witness),
+    }
+}
+
+// The judgement on a recipe.
+pub fn of_judgement(judgement: Judgement) -> Report
+    ensures { λ r. ⌜ (D.paper r ≡ J.judgementPaper judgement) × (r .count ≤ length (r .values)) ⌝ }
+{
+    match judgement {
+        Judgement::Decided(verdict) => of_verdict(verdict),
+        Judgement::Refused(refusal) => report::refused(refusal),
+    }
+}

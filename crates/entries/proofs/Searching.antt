@@ -1,0 +1,100 @@
+-- The searches of entries: the entry of a function, the first empty one, what the filled ones use.
+use mathlib.Core.Path.{_≡_, refl, sym, ap, _∙_}
+use mathlib.Core.Bool.{Bool, true, false, false≢true}
+use mathlib.Core.List.{List, [], _∷_}
+use Prim.Native.Nat.{ℕ, suc, _+_, _≤_, _<_}
+use native.Mathlib.Omega.{arith}
+use lib.Bits.{bitOr, or-zero-r}
+use lib.Dec.{eqb}
+use lib.ListN.{length, drop, getD, drop-of-length-le}
+use borrow.Author.Tests.{eq-eqb, ne-eqb}
+use Rattle.words.specs.Choice.{if_then_else_}
+use Rattle.words.proofs.Choices.{either}
+use Rattle.words.proofs.Lists.{drop-next}
+use Rattle.words.specs.Field.{sourceFunction}
+use Rattle.table.specs.Table.{listsSource}
+use Rattle.usage.specs.Sets.{usageOf, usage}
+use Rattle.usage.proofs.Joining.{or-assoc}
+use Rattle.soundness.specs.Sound.{filled}
+use Rattle.entries.specs.Entries.{entryOf, firstEmpty}
+
+-- ---- the entry of a function
+
+module _ (ss : List ℕ) (f i : ℕ) (e : i + entryOf (drop i ss) f ≡ entryOf ss f) where
+  pub no-entry : length ss ≤ i → i ≡ entryOf ss f
+  unfolding entryOf
+  no-entry h = let z : i + 0 ≡ entryOf ss f = rw (drop-of-length-le ss h) at e in omega arith
+
+  module _ (h : i < length ss) (p : ℕ) (ep : p ≡ sourceFunction (getD ss i 0)) where
+    next-entry : i + (if eqb (sourceFunction (getD ss i 0)) f then 0 else entryOf (drop (i + 1) ss) f + 1) ≡ entryOf ss f
+    unfolding entryOf
+    next-entry = rw (drop-next ss i h) at e
+
+    pub entry-found : p ≡ f → i ≡ entryOf ss f
+    entry-found u =
+        let z : i + 0 ≡ entryOf ss f = rw (eq-eqb (sourceFunction (getD ss i 0)) f (sym ep ∙ u)) at next-entry in omega arith
+
+    pub entry-passed : (p ≡ f → ⊥) → i + 1 + entryOf (drop (i + 1) ss) f ≡ entryOf ss f
+    entry-passed u =
+        let z : i + (entryOf (drop (i + 1) ss) f + 1) ≡ entryOf ss f
+        = rw (ne-eqb (sourceFunction (getD ss i 0)) f (λ q. u (ep ∙ q))) at next-entry in
+        omega arith
+
+pub entry-most : (ss : List ℕ) (f : ℕ) → entryOf ss f ≤ length ss
+unfolding entryOf
+entry-most [] f = omega arith
+entry-most (s ∷ ss) f =
+    either (λ x. x ≤ suc (length ss)) (eqb (sourceFunction s) f) (λ _. omega arith) (λ _. omega (arith, entry-most ss f))
+
+-- a function that the table lists has an entry in it
+pub lists-entry : (ss : List ℕ) (f : ℕ) → listsSource ss f ≡ true → entryOf ss f < length ss
+unfolding listsSource entryOf
+lists-entry [] f e = absurd (false≢true e)
+lists-entry (s ∷ ss) f e = go (eqb (sourceFunction s) f) (lists-entry ss f) e
+  where
+    go : (b : Bool) → (listsSource ss f ≡ true → entryOf ss f < length ss) → (if b then true else listsSource ss f) ≡ true
+        → (if b then 0 else entryOf ss f + 1) < suc (length ss)
+    go true h u = omega arith
+    go false h u = omega (arith, h u)
+
+-- ---- the first empty entry
+
+module _ (ss bs : List ℕ) (i : ℕ) (e : firstEmpty (drop i ss) (drop i bs) ≡ firstEmpty ss bs) where
+  pub none-unbound : length ss ≤ i → 0 ≡ firstEmpty ss bs
+  unfolding firstEmpty
+  none-unbound h = rw (drop-of-length-le ss h) at e
+
+  module _ (h : i < length ss) (g : length ss ≤ length bs) where
+    next-unbound : (if eqb (getD bs i 0) 0 then sourceFunction (getD ss i 0) else firstEmpty (drop (i + 1) ss) (drop (i + 1) bs))
+        ≡ firstEmpty ss bs
+    unfolding firstEmpty
+    next-unbound = rw (drop-next ss i h, drop-next bs i (omega arith)) at e
+
+    pub unbound-found : (p : ℕ) → getD bs i 0 ≡ 0 → p ≡ sourceFunction (getD ss i 0) → p ≡ firstEmpty ss bs
+    unbound-found p u ep = ep ∙ (rw (eq-eqb (getD bs i 0) 0 u) at next-unbound)
+
+    pub unbound-passed : (getD bs i 0 ≡ 0 → ⊥) → firstEmpty (drop (i + 1) ss) (drop (i + 1) bs) ≡ firstEmpty ss bs
+    unbound-passed u = rw (ne-eqb (getD bs i 0) 0 u) at next-unbound
+
+-- ---- what the filled entries use
+
+pub usage-filled : (w : ℕ) (bs : List ℕ) → usage (filled (w ∷ bs)) ≡ bitOr (if eqb w 0 then 0 else usageOf w) (usage (filled bs))
+unfolding filled usage
+usage-filled w bs = go (eqb w 0)
+  where
+    go : (b : Bool) → usage (if b then filled bs else w ∷ filled bs) ≡ bitOr (if b then 0 else usageOf w) (usage (filled bs))
+    go true = refl
+    go false = refl
+
+module _ (bs : List ℕ) (i u : ℕ) (e : bitOr u (usage (filled (drop i bs))) ≡ usage (filled bs)) where
+  pub all-used : length bs ≤ i → u ≡ usage (filled bs)
+  unfolding filled usage
+  all-used h = sym (or-zero-r u) ∙ (rw (drop-of-length-le bs h) at e)
+
+  pub one-used : (x : ℕ) → i < length bs → x ≡ (if eqb (getD bs i 0) 0 then 0 else usageOf (getD bs i 0))
+      → bitOr (bitOr u x) (usage (filled (drop (i + 1) bs))) ≡ usage (filled bs)
+  one-used x h ex =
+      or-assoc u x (usage (filled (drop (i + 1) bs)))
+      ∙ ap (λ (y : ℕ). bitOr u (bitOr y (usage (filled (drop (i + 1) bs))))) ex
+      ∙ ap (bitOr u) (sym (usage-filled (getD bs i 0) (drop (i + 1) bs)))
+      ∙ (rw (drop-next bs i h) at e)

@@ -1,0 +1,89 @@
+// Lines that the programs print, put into lent bytes.
+use words::Refusal;
+use words::Witness;
+ghost use Prim.Native.Nat.{_+_, _≤_};
+ghost use lib.ListN.{length};
+ghost use Rattle.text.specs.Text as P;
+ghost use Rattle.lines.specs.Lines as L;
+
+// The most bytes of a line.
+pub const MOST_LINE_BYTES: usize = 160;
+
+// A binding: its source, its target or LV, and its word.
+pub fn binding_line(word: u32, out: &mut [u8]) -> usize
+    requires { ⌜ L.mostLineBytes ≤ length (now out) ⌝ }
+    ensures text { λ r. ⌜ P.Puts (now (out .entry)) 0 (L.bindingLine word) (now (out .exit)) r ⌝ }
+{
+    let source = text::put_name(recipe::source_of(word), out, 0);
+    let gap = text::put(b" ", out, source);
+    let target = text::put_name(recipe::target_of(word), out, gap);
+    let space = text::put(b" ", out, target);
+    let digits = text::put_digits(word as u64, 16, 8, out, space);
+    text::put(b"\n", out, digits)
+}
+
+// The glue count.
+pub fn glue_line(count: u32, out: &mut [u8]) -> usize
+    requires { ⌜ L.mostLineBytes ≤ length (now out) ⌝ }
+    ensures text { λ r. ⌜ P.Puts (now (out .entry)) 0 (L.glueLine count) (now (out .exit)) r ⌝ }
+{
+    let end = text::put_labelled(b"GLUE ", count as u64, out, 0);
+    text::put(b"\n", out, end)
+}
+
+// A refusal's number and place.
+fn put_refusal(refusal: Refusal, out: &mut [u8]) -> usize
+    requires { ⌜ L.mostLineBytes ≤ length (now out) ⌝ }
+    ensures short { λ r. ⌜ r ≤ 49 ⌝ }
+    ensures text { λ r. ⌜ P.Puts (now (out .entry)) 0 (L.refusalText refusal) (now (out .exit)) r ⌝ }
+{
+    let end = text::put_labelled(b"REFUSED ", refusal.number as u64, out, 0);
+    text::put_labelled(b" ", refusal.place as u64, out, end)
+}
+
+// A refusal.
+pub fn refused_line(refusal: Refusal, out: &mut [u8]) -> usize
+    requires { ⌜ L.mostLineBytes ≤ length (now out) ⌝ }
+    ensures text { λ r. ⌜ P.Puts (now (out .entry)) 0 (L.refusedLine refusal) (now (out .exit)) r ⌝ }
+{
+    let end = put_refusal(refusal, out);
+    text::put(b"\n", out, end)
+}
+
+// A refusal of the job or of the mapping.
+pub fn refused_file_line(refusal: Refusal, mapping: bool, out: &mut [u8]) -> usize
+    requires { ⌜ L.mostLineBytes ≤ length (now out) ⌝ }
+    ensures text { λ r. ⌜ P.Puts (now (out .entry)) 0 (L.refusedFileLine refusal mapping) (now (out .exit)) r ⌝ }
+{
+    let end = put_refusal(refusal, out);
+    if mapping {
+        return text::put(b" MAPPING\n", out, end);
+    }
+    text::put(b" JOB\n", out, end)
+}
+
+// The port, the operands and the carry at which a recipe differs from its source function.
+fn put_witness(witness: Witness, out: &mut [u8], at: usize) -> usize
+    requires { ⌜ at + 106 ≤ length (now out) ⌝ }
+    ensures short { λ r. ⌜ r ≤ at + 106 ⌝ }
+    ensures text { λ r. ⌜ P.Puts (now (out .entry)) at (L.witnessText witness) (now (out .exit)) r ⌝ }
+{
+    let port = text::put_labelled(b" PORT ", witness.port as u64, out, at);
+    let left = text::put_labelled(b" LEFT ", witness.left, out, port);
+    let right = text::put_labelled(b" RIGHT ", witness.right, out, left);
+    text::put_labelled(b" CARRY ", witness.carry as u64, out, right)
+}
+
+// A wrong recipe: where it differs from its source function.
+pub fn wrong_line(witness: Witness, out: &mut [u8]) -> usize
+    requires { ⌜ L.mostLineBytes ≤ length (now out) ⌝ }
+    ensures text { λ r. ⌜ P.Puts (now (out .entry)) 0 (L.wrongLine witness) (now (out .exit)) r ⌝ }
+{
+    let refusal = Refusal {
+        number: 10,
+        place: witness.function as usize,
+    };
+    let end = put_refusal(refusal, out);
+    let values = put_witness(witness, out, end);
+    text::put(b"\n", out, values)
+}
