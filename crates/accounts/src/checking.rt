@@ -19,8 +19,8 @@ use testing::words::bindings_of;
 use testing::words::content;
 use testing::words::kind;
 
-// The place of the word of a kind for a function, or 0.
-fn place_of(words: &[u32], of: u32, function_sought: u32) -> usize {
+// The index of the word of a kind for a function, or 0.
+fn index_of(words: &[u32], of: u32, function_sought: u32) -> usize {
     let mut i = 0;
     while i < words.len() {
         let word = at(words, i);
@@ -32,16 +32,16 @@ fn place_of(words: &[u32], of: u32, function_sought: u32) -> usize {
     0
 }
 
-// The place of the first binding of or from a function that the job has not, or 0.
+// The index of the first binding of or from a function that the job has not, or 0.
 fn first_stranger(job: &[u32], mapping: &[u32]) -> usize {
     let mut i = 1;
     while i < mapping.len() {
         let fields = fields_of(at(mapping, i));
         if fields.kind == 6 {
-            if place_of(job, 3, fields.source) == 0 {
+            if index_of(job, 3, fields.source) == 0 {
                 return i;
             }
-            if (fields.target != 0) & (place_of(job, 4, fields.target) == 0) {
+            if (fields.target != 0) & (index_of(job, 4, fields.target) == 0) {
                 return i;
             }
         }
@@ -54,7 +54,7 @@ fn first_stranger(job: &[u32], mapping: &[u32]) -> usize {
 fn lowest_unbound(job: &[u32], mapping: &[u32]) -> u32 {
     let mut f = 1;
     while f < 28 {
-        if (place_of(job, 3, f) != 0) & (place_of(mapping, 6, f) == 0) {
+        if (index_of(job, 3, f) != 0) & (index_of(mapping, 6, f) == 0) {
             return f;
         }
         f += 1;
@@ -160,7 +160,7 @@ pub fn check(job: &[u32], mapping: &[u32]) -> Answer {
 // function's binding is found wrong.
 pub fn wrong_is_borne_out(job: &[u32], mapping: &[u32], witness: Witness) -> bool {
     let n = content(at(job, 0));
-    let word = at(mapping, place_of(mapping, 6, witness.function));
+    let word = at(mapping, index_of(mapping, 6, witness.function));
     let found = first_found_wrong(mapping, n);
     (before_rightness(job, mapping).number == 0)
         & (kind(word) == 6)

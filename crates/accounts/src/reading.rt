@@ -38,7 +38,7 @@ fn follows(of_job: bool, before: u32, kind: u32) -> bool {
     }
 }
 
-// How many words of a kind stand before a place.
+// How many words of a kind stand before an index.
 fn count_of(words: &[u32], end: usize, of: u32) -> u32 {
     let mut count = 0;
     let mut i = 0;
@@ -67,7 +67,7 @@ fn content_fault(word: u32) -> u32 {
     if bad { 3 } else { 0 }
 }
 
-// 2 to 6 of the word at a place, or 0. Rules need not rise.
+// 2 to 6 of the word at an index, or 0. Rules need not rise.
 fn word_fault(of_job: bool, words: &[u32], i: usize) -> u32 {
     let word = at(words, i);
     let last = at(words, wrapping_sub_usize(i, 1));

@@ -1,5 +1,5 @@
-// Which benches are sound, place by place: each place of a table by the word before it, each bound word by what the reference shows.
-// A bench is 87 words: 27 places each of sources, targets and bound rules; then the width, the numbers of sources and targets, and the
+// Which benches are sound, entry by entry: each entry of a table by the word before it, each bound word by what the reference shows.
+// A bench is 87 words: 27 entries each of sources, targets and bound rules; then the width, the numbers of sources and targets, and the
 // prices of an inverter, a gate and a multiplexer.
 use reference::recipe::fields_of;
 use reference::refusal::refusal_of;
@@ -49,7 +49,7 @@ fn is_target(bench: &[u32], word: u32) -> bool {
     false
 }
 
-// A right rule of the source at a place, from scratch or from a target of the table.
+// A right rule of the source in an entry, from scratch or from a target of the table.
 fn may_be_bound(bench: &[u32], word: u32, place: usize) -> bool {
     let n = at(bench, WIDTH);
     let fields = fields_of(word);

@@ -11,7 +11,7 @@ use Rattle.automaton.specs.Machine.{first, agreesFrom}
 use Rattle.automaton.specs.declared.State.{State}
 use Rattle.automaton.proofs.Runs.{decided}
 use Rattle.equivalence.specs.Sets.{indexOf, stateOf, Tabled, failing, Refuted}
-use Rattle.verdict.specs.Search.{Decided, Found}
+use Rattle.verdict.specs.Search.{Concluded, Found}
 use Rattle.equivalence.specs.declared.moves.Tables.{Tables}
 use Rattle.verdict.specs.declared.search.Outcome.{Outcome}
 use Rattle.verdict.specs.declared.search.Outcome.the-variants.{Holds, Fails}
@@ -39,7 +39,7 @@ module _ (s : Side) (t : Recipe) (k : ℕ) (tables : Tables) (known : Tabled s t
       (h .left-fits, h .right-fits, λ same. false-not _ z (decided s t k l r c (h .left-fits) (h .right-fits) .0 same))
 
   module _ (plain carried : ℕ) (ep : plain ≡ indexOf (first s t false)) (ec : carried ≡ indexOf (first s t true)) where
-    chosen : (o : Outcome) → Decided (tables .moves) (tables .tops) k plain carried o → Found s t (suc k) o
+    chosen : (o : Outcome) → Concluded (tables .moves) (tables .tops) k plain carried o → Found s t (suc k) o
     chosen Holds h = λ l r c hl hr. decided s t k l r c hl hr .1 (go c l r)
       where
         go : (c : Bool) (l r : ℕ) → agreesFrom s t k (first s t c) l r ≡ true
@@ -50,7 +50,7 @@ module _ (s : Side) (t : Recipe) (k : ℕ) (tables : Tables) (known : Tabled s t
 
 pub found : (s : Side) (t : Recipe) (n : ℕ) (tables : Tables) → Tabled s t tables → 0 < n → (a b : State) (plain carried : ℕ)
     → a ≡ first s t false → plain ≡ indexOf a → b ≡ first s t true → carried ≡ indexOf b
-    → (o : Outcome) → Decided (tables .moves) (tables .tops) (n - 1) plain carried o → Found s t n o
+    → (o : Outcome) → Concluded (tables .moves) (tables .tops) (n - 1) plain carried o → Found s t n o
 found s t zero tables known h a b plain carried ea ep eb ec o d = absurd (omega arith)
 found s t (suc k) tables known h a b plain carried ea ep eb ec o d =
     chosen s t k tables known plain carried (ep ∙ ap indexOf ea) (ec ∙ ap indexOf eb) o (rw suc-sub-one at d)

@@ -14,9 +14,9 @@ use Rattle.verdict.specs.declared.search.Outcome.{Outcome}
 use Rattle.verdict.specs.declared.search.Outcome.the-variants.{Holds, Fails}
 
 -- neither start state fails, or operands at which the recipe fails
-abbrev pub Decided : List ℕ → List ℕ → ℕ → ℕ → ℕ → Outcome → Type 0
-Decided moves tops k plain carried Holds = (bit (failing moves tops k) plain ≡ false) × (bit (failing moves tops k) carried ≡ false)
-Decided moves tops k plain carried (Fails l r c) = Refuted moves tops k (if c then carried else plain) l r
+abbrev pub Concluded : List ℕ → List ℕ → ℕ → ℕ → ℕ → Outcome → Type 0
+Concluded moves tops k plain carried Holds = (bit (failing moves tops k) plain ≡ false) × (bit (failing moves tops k) carried ≡ false)
+Concluded moves tops k plain carried (Fails l r c) = Refuted moves tops k (if c then carried else plain) l r
 
 -- what an outcome says
 abbrev pub Found : Side → Recipe → ℕ → Outcome → Type 0

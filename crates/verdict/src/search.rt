@@ -28,7 +28,7 @@ fn is_in(set: u64, i: u8) -> bool
 // From the start states without and with a carry, with k + 1 places to go.
 fn decide(moves: &[u8], tops: &[u8], k: usize, plain: u8, carried: u8) -> Outcome
     requires { ⌜ F.TableSizes (now moves) (now tops) × (k < 64) × (plain < 64) × (carried < 64) ⌝ }
-    ensures { λ r. ⌜ S.Decided (now (moves .entry)) (now (tops .entry)) k plain carried r ⌝ }
+    ensures { λ r. ⌜ S.Concluded (now (moves .entry)) (now (tops .entry)) k plain carried r ⌝ }
 {
     let found = rounds::failing_sets(moves, tops, k);
     let sets = found.sets;

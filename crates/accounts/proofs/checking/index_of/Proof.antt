@@ -1,9 +1,9 @@
--- `accounts::checking::place_of` meets its contract.
+-- `accounts::checking::index_of` meets its contract.
 use Prim.Native.Nat.{_≤_, _-_}
 use lib.ListN.{length}
 use borrow.Author.Needs.{needs}
-use Rattle.accounts.proofs.checking.place_of.Statement.{statement}
-use Rattle.accounts.proofs.checking.place_of.Tie as tie
+use Rattle.accounts.proofs.checking.index_of.Statement.{statement}
+use Rattle.accounts.proofs.checking.index_of.Tie as tie
 
 abbrev Inv-loop : tie.InvT-loop
 Inv-loop words of function-sought i₀ i = i ≤ length words
@@ -38,8 +38,8 @@ loop-again c = search needs
 returns-2 : tie.Need-returns-2 Inv-loop μ-loop
 returns-2 c = search needs
 
-pub place-of-spec : {M : Type 1} → statement M
-place-of-spec =
+pub index-of-spec : {M : Type 1} → statement M
+index-of-spec =
     tie.close
     (tie.spec
     Inv-loop
