@@ -13,7 +13,8 @@ use Rattle.bits.specs.Bits.{num, bit, word}
 use Rattle.bits.specs.Wiring.{carried}
 use Rattle.bits.specs.declared.Ports.{Ports}
 use Rattle.bits.proofs.Words.{pow2, word-lt, word-ext, word-bits, same, same-word, word-same, top-word, word-not, word-zeros}
-use Rattle.binding.specs.Binding.{outputsShow, sideShows, shows, shownBit, shownWord, shownComparison}
+use Rattle.binding.specs.Binding.{sideShows, shows}
+use Rattle.output.specs.Output.{outputsShow, shownBit, shownWord, shownComparison}
 use Rattle.binding.specs.Right.{Agrees}
 use Rattle.binding.specs.declared.Side.{Side}
 use Rattle.binding.specs.declared.Recipe.{Recipe}

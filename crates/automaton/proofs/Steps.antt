@@ -1,9 +1,9 @@
 -- What the machine's code answers, from what it asked of the sides.
 use mathlib.Core.Path.{_≡_, ap, ap₂, _∙_}
 use mathlib.Core.Bool.{Bool, true, false, _&&_, _||_, Bool·beq}
-use Rattle.binding.specs.Binding.{shownBit, shownComparison}
+use Rattle.output.specs.Output.{shownBit, shownComparison}
 use Rattle.binding.specs.declared.Side.{Side}
-use Rattle.binding.specs.declared.Outputs.{Outputs}
+use Rattle.output.specs.declared.Outputs.{Outputs}
 use Rattle.binding.specs.declared.Recipe.{Recipe}
 use Rattle.automaton.specs.Place.{sideStart, sideStep, sideBit, sideCarry, sideOverflow, sideOrder}
 use Rattle.automaton.specs.Machine.{first, cellOf, alikeBy, lastBy}

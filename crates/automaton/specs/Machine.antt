@@ -3,9 +3,9 @@
 use Prim.Native.Nat.{ℕ, zero, suc, _/_, _%_}
 use mathlib.Core.Bool.{Bool, true, false, _&&_, _||_, Bool·beq}
 use lib.Dec.{eqb}
-use Rattle.binding.specs.Binding.{shownBit, shownComparison}
+use Rattle.output.specs.Output.{shownBit, shownComparison}
 use Rattle.binding.specs.declared.Side.{Side}
-use Rattle.binding.specs.declared.Outputs.{Outputs}
+use Rattle.output.specs.declared.Outputs.{Outputs}
 use Rattle.binding.specs.declared.Recipe.{Recipe}
 use Rattle.automaton.specs.Place.{sideStart, sideStep, sideBit, sideCarry, sideOverflow, sideOrder}
 use Rattle.automaton.specs.declared.Ripple.{Ripple}

@@ -3,7 +3,7 @@
 mod place;
 mod side;
 
-use binding::Outputs;
+use output::Outputs;
 use binding::Recipe;
 use binding::Side;
 pub use place::same_bit;
@@ -77,7 +77,7 @@ pub fn next(p: Cell, q: Cell, any: bool, all: bool) -> State
 pub fn alike(outputs: Outputs, p: Cell, q: Cell) -> bool
     ensures { λ r. ⌜ r ≡ M.alikeBy outputs p q ⌝ }
 {
-    same_bit(binding::shown_bit(outputs.main, q.bit), p.bit)
+    same_bit(output::shown_bit(outputs.main, q.bit), p.bit)
 }
 
 // Whether all ports agree at the top place.
@@ -85,9 +85,9 @@ pub fn last(outputs: Outputs, p: Cell, q: Cell, any: bool, all: bool) -> bool
     ensures { λ r. ⌜ r ≡ M.lastBy outputs p q any all ⌝ }
 {
     let main = alike(outputs, p, q);
-    let cout = same_bit(binding::shown_bit(outputs.cout, q.carry), p.carry);
-    let ovf = same_bit(binding::shown_bit(outputs.ovf, q.overflow), p.overflow);
-    let code = binding::shown_comparison(
+    let cout = same_bit(output::shown_bit(outputs.cout, q.carry), p.carry);
+    let ovf = same_bit(output::shown_bit(outputs.ovf, q.overflow), p.overflow);
+    let code = output::shown_comparison(
         outputs.code,
         q.order,
         any | q.bit,

@@ -129,7 +129,7 @@ pub fn out_bit(kind: Kind, a: Ripple, x: bool, y: bool) -> bool
             left: p,
             right: q,
             carry: _,
-        } => binding::exor(wire(p, x, y), binding::exor(wire(q, x, y), a.lo)),
+        } => output::exor(wire(p, x, y), output::exor(wire(q, x, y), a.lo)),
         Kind::Logic(v) => minterm(v, x, y),
         Kind::Comparison {
             less: _,
@@ -166,7 +166,7 @@ pub fn top_overflow(kind: Kind, a: Ripple, x: bool, y: bool) -> bool
             left: p,
             right: q,
             carry: _,
-        } => binding::exor(a.lo, majority(wire(p, x, y), wire(q, x, y), a.lo)),
+        } => output::exor(a.lo, majority(wire(p, x, y), wire(q, x, y), a.lo)),
         Kind::Logic(_) => false,
         Kind::Comparison {
             less: _,

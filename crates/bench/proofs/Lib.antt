@@ -1,5 +1,4 @@
 pub mod Shapes
-pub mod Copying
 pub mod Opened
 pub mod Binds
 pub mod Pricing

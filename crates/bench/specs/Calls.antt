@@ -1,10 +1,10 @@
 -- Document 01, "Mapper and bench" and "Refusals that come from the state": what each call answers, and the bench afterwards.
-use Prim.Native.Nat.{ℕ, _-_}
+use Prim.Native.Nat.{ℕ}
 use mathlib.Core.Path.{_≡_}
 use mathlib.Core.Bool.{Bool, not}
-use mathlib.Core.List.{List, [], _∷_, _++_}
+use mathlib.Core.List.{List, [], _∷_}
 use lib.Dec.{eqb}
-use lib.ListN.{length, getD, set, replicate}
+use lib.ListN.{getD, set, replicate}
 use Rattle.words.specs.Choice.{if_then_else_}
 use Rattle.words.specs.Paper.{Paper, refusal, noRefusal, sourcePlace, accepted, told}
 use Rattle.alu.specs.Function.{noFunction}
@@ -12,12 +12,11 @@ use Rattle.recipe.specs.Fields.{sourceOf}
 use Rattle.binding.specs.Right.{isRight}
 use Rattle.binding.specs.declared.Claim.{Claim}
 use Rattle.verdict.specs.Verdicts.{Differs, wrongPaper, Ruling, Gives, Names}
-use Rattle.sequence.specs.Limits.{mostSources, mostTargets}
+use Rattle.sequence.specs.Limits.{mostSources}
 use Rattle.reader.specs.Job.{jobOf}
 use Rattle.reader.specs.declared.Job.{Job}
 use Rattle.reader.specs.declared.JobRead.{JobRead}
 use Rattle.reader.specs.declared.JobRead.the-variants as read
-use Rattle.table.specs.Parts.{sourcesOf, targetsOf}
 use Rattle.table.specs.Table.{inJob}
 use Rattle.claims.specs.Claim.{claimIn}
 use Rattle.glue.specs.Glue.{glue}
@@ -26,6 +25,7 @@ use Rattle.writer.specs.declared.Written.{Written}
 use Rattle.writer.specs.declared.Written.the-variants as written
 use Rattle.soundness.specs.Sound.{nothing, filled, sourcesOn, targetsOn, ruleFault, isSound}
 use Rattle.soundness.specs.declared.Tables.{Tables}
+use Rattle.opening.specs.Opening.{tablesIn, tablesOfZeros}
 use Rattle.entries.specs.Entries.{entryOf, firstEmpty}
 use Rattle.bench.specs.declared.Bench.{Bench}
 use Rattle.bench.specs.declared.Answer.{Answer}
@@ -55,25 +55,6 @@ gives b a = record { bench = b; answer = a }
 
 -- ---- open: "Opening takes no bench and binds nothing; refused, it hands back one of zeros only"
 
--- a table's words, and nothing in the entries past them
-unfoldable pub tableOf : ℕ → List ℕ → List ℕ
-tableOf most ws = ws ++ replicate (most - length ws) nothing
-
--- the tables of a job, with these words in the entries for its sources and targets
-abbrev pub tablesWith : Job → List ℕ → List ℕ → Tables
-tablesWith job sources targets =
-    record {
-      width = job .width;
-      prices = job .prices;
-      sources = sources;
-      nsources = job .sources;
-      targets = targets;
-      ntargets = job .targets;
-    }
-
-abbrev pub tablesIn : List ℕ → Job → Tables
-tablesIn ws job = tablesWith job (tableOf mostSources (sourcesOf ws job)) (tableOf mostTargets (targetsOf ws job))
-
 -- a bench with nothing bound
 abbrev pub emptyBench : Tables → Bench
 emptyBench tables = benchWith tables (replicate mostSources nothing)
@@ -82,18 +63,8 @@ abbrev pub opened : List ℕ → Job → Bench
 opened ws job = emptyBench (tablesIn ws job)
 
 -- "one of zeros only, which is not sound"
-abbrev pub noJob : Job
-noJob =
-    record {
-      width = 0;
-      prices = record { inverter = 0; gate = 0; multiplexer = 0 };
-      sources = 0;
-      targets = 0;
-      rules = 0;
-    }
-
 abbrev pub benchOfZeros : Bench
-benchOfZeros = emptyBench (tablesWith noJob (replicate mostSources 0) (replicate mostTargets 0))
+benchOfZeros = emptyBench tablesOfZeros
 
 abbrev pub openFor : List ℕ → JobRead → After
 openFor ws (read.Refused r) = gives benchOfZeros (Refused r)

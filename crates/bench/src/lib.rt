@@ -1,10 +1,10 @@
 // The bench: a mapping put together by hand. Document 01, "Mapper and bench" and "Refusals that come from the state". A bench
 // passes through each call by value and the next bench comes back, with the answer.
 mod faults;
-mod opening;
 
 use reader::JobRead;
 use sequence::MOST_SOURCES;
+use soundness::NOTHING;
 use soundness::Tables;
 use verdict::Verdict;
 use words::Refusal;
@@ -36,6 +36,14 @@ pub struct After {
     pub answer: Answer,
 }
 
+// A bench with nothing bound.
+fn empty_bench(tables: Tables) -> Bench
+    ensures { λ r. ⌜ r ≡ C.emptyBench tables ⌝ }
+{
+    let bound = [NOTHING; MOST_SOURCES];
+    Bench { tables, bound }
+}
+
 // Writes the mapping of a bench whose sources are all bound: refusal 23.
 fn write(bench: Bench, lent: &mut [u32]) -> Answer
     requires { ⌜ (C.soundBench bench ≡ true) × (C.unboundOn bench ≡ 0) ⌝ }
@@ -61,11 +69,11 @@ impl Bench {
         let read = reader::read_job(words);
         match read {
             JobRead::Refused(refusal) => After {
-                bench: opening::bench_of_zeros(),
+                bench: empty_bench(opening::tables_of_zeros()),
                 answer: Answer::Refused(refusal),
             },
             JobRead::Accepted(job) => After {
-                bench: opening::opened(words, job),
+                bench: empty_bench(opening::tables_of(words, job)),
                 answer: Answer::Done,
             },
         }

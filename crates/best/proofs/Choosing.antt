@@ -16,7 +16,7 @@ use Rattle.table.specs.Parts.{Terms, termsWith}
 use Rattle.table.specs.Table.{hasTarget}
 use Rattle.claims.specs.Claim.{claimIn}
 use Rattle.usage.specs.Sets.{usageOf}
-use Rattle.glue.specs.Parts.{setCount}
+use Rattle.tally.specs.Parts.{setCount}
 use Rattle.best.specs.Best.{usable, serves, beats, better, bestOf}
 use Rattle.best.specs.Beside.{besides}
 use Rattle.best.specs.declared.Best.{Best}

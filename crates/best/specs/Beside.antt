@@ -3,7 +3,7 @@ use Prim.Native.Nat.{ℕ}
 use lib.Bits.{bitOr}
 use Rattle.words.specs.declared.Prices.{Prices}
 use Rattle.usage.specs.Sets.{usageOf}
-use Rattle.glue.specs.Parts.{setCount}
+use Rattle.tally.specs.Parts.{setCount}
 
 -- the glue that a rule makes beside bindings that use a set
 abbrev pub besides : ℕ → Prices → ℕ → ℕ → ℕ

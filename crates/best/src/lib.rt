@@ -41,7 +41,7 @@ pub fn consider(
     }
     let n = job.width;
     let prices = job.prices;
-    let total = glue::price(used | usage::usage_of(word), n, prices);
+    let total = tally::price(used | usage::usage_of(word), n, prices);
     if !beats(best, total) {
         return best;
     }

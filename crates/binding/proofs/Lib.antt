@@ -1,3 +1,2 @@
-pub mod Codes
 pub mod Recipes
 pub mod Tests

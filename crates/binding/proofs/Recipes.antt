@@ -10,9 +10,10 @@ use Rattle.alu.specs.declared.Kind.{Kind}
 use Rattle.alu.proofs.Shown.{ports-lt}
 use Rattle.recipe.specs.Fields.{sourceOf, fromScratch, vectorOf, fieldsOf}
 use Rattle.recipe.specs.declared.Fields.{Fields}
-use Rattle.binding.specs.Binding.{plain, sideShows, outputsShow, fromVector, fromTarget, recipeOf, shows}
+use Rattle.binding.specs.Binding.{plain, sideShows, fromVector, fromTarget, recipeOf, shows}
+use Rattle.output.specs.Output.{outputsShow}
 use Rattle.binding.specs.declared.Side.{Side}
-use Rattle.binding.specs.declared.Outputs.{Outputs}
+use Rattle.output.specs.declared.Outputs.{Outputs}
 use Rattle.binding.specs.declared.Recipe.{Recipe}
 use Rattle.binding.specs.declared.Claim.{Claim}
 use Rattle.binding.specs.Right.{claimOf}

@@ -1,12 +1,7 @@
 // What a binding shows: document 01, "What a binding shows". A recipe's target works on wired inputs, and output codes show its ports.
-mod output;
-
 use alu::Kind;
 use bits::Ports;
-pub use output::exor;
-use output::outputs_show;
-pub use output::shown_bit;
-pub use output::shown_comparison;
+use output::Outputs;
 ghost use mathlib.Core.Path.{_≡_};
 ghost use Prim.Native.Nat.{_^_, _<_};
 ghost use Rattle.bits.specs.Asked as Q;
@@ -19,14 +14,6 @@ pub struct Side {
     pub left: u32,
     pub right: u32,
     pub carry: u32,
-}
-
-// The codes of a recipe's outputs.
-pub struct Outputs {
-    pub main: u32,
-    pub cout: u32,
-    pub ovf: u32,
-    pub code: u32,
 }
 
 pub struct Recipe {
@@ -138,5 +125,5 @@ pub fn shows(recipe: Recipe, n: u32, left: u64, right: u64, carry: bool) -> Port
 {
     let target = recipe.target;
     let outputs = recipe.outputs;
-    outputs_show(outputs, n, side_shows(target, n, left, right, carry))
+    output::outputs_show(outputs, n, side_shows(target, n, left, right, carry))
 }

@@ -28,9 +28,11 @@ use Rattle.fitting.specs.declared.Pair.the-variants as pair
 use Rattle.fitting.specs.declared.Fit.{Fit}
 use Rattle.fitting.specs.declared.Fit.the-variants.{Fits, Misfit}
 use Rattle.pricer.specs.Pricing.{glueOf}
-use Rattle.checker.specs.Check.{CheckRuled, unlessWrong, accountOf, fittingOf, unlessMisfit, judgementOf, ruledOf, rulingOf, Checks}
+use Rattle.checker.specs.Check.{CheckRuled, accountOf, fittingOf, unlessMisfit, judgementOf, ruledOf, rulingOf, Checks}
 use Rattle.completeness.specs.Complete.{firstUnbound}
-use Rattle.checker.specs.FirstWrong.{SaysOfAll}
+use Rattle.rightness.specs.Rightness.{unlessWrong}
+use Rattle.rightness.specs.FirstWrong.{VerdictRuled, SaysOfAll}
+use Rattle.rightness.proofs.Judging.{right-or-named}
 use Rattle.checker.specs.declared.Checked.{Checked}
 use Rattle.checker.specs.declared.Checked.the-variants.{Accepted, JobRefused, MappingRefused, Refused, Wrong}
 
@@ -39,27 +41,14 @@ answers-to r e h = subst (λ (x : Ruling Checked). CheckRuled x r) e h
 
 -- ---- 10, and what comes next
 
--- all bindings are right, or one is named whatever comes next
-pub right-or-named : (P : Ruling Checked → Ruling Checked → Type 0) (t : Terms) (ws : List ℕ) (a b : Ruling Checked)
-    → P a b → ((c : Claim) → P (Names c (t .width)) (Names c (t .width))) → P (unlessWrong t ws a) (unlessWrong t ws b)
-unfolding unlessWrong
-right-or-named P t [] a b none named = none
-right-or-named P t (w ∷ ws) a b none named = go (isRight (claimIn (t .sources) (t .targets) w) (t .width)) (right-or-named P t ws a b none named)
-  where
-    go : (x : Bool) → P (unlessWrong t ws a) (unlessWrong t ws b)
-        → P (if not x then Names (claimIn (t .sources) (t .targets) w) (t .width) else unlessWrong t ws a)
-        (if not x then Names (claimIn (t .sources) (t .targets) w) (t .width) else unlessWrong t ws b)
-    go true h = h
-    go false h = named (claimIn (t .sources) (t .targets) w)
-
 module _ (t : Terms) (ws : List ℕ) (next : Ruling Checked) where
   pub no-wrong : SaysOfAll t ws verdict.Right → unlessWrong t ws next ≡ next
   no-wrong =
-      right-or-named (λ x y. CheckRuled x Accepted → y ≡ next) t ws (Gives Accepted) next (λ _. refl) (λ w h. absurd h)
+      right-or-named (λ x y. VerdictRuled x verdict.Right → y ≡ next) t ws (Gives verdict.Right) next (λ _. refl) (λ w h. absurd h)
 
   pub still-wrong : (v : Witness) → SaysOfAll t ws (verdict.Wrong v) → CheckRuled (unlessWrong t ws next) (Wrong v)
   still-wrong v =
-      right-or-named (λ x y. CheckRuled x (Wrong v) → CheckRuled y (Wrong v)) t ws (Gives Accepted) next
+      right-or-named (λ x y. VerdictRuled x (verdict.Wrong v) → CheckRuled y (Wrong v)) t ws (Gives verdict.Right) next
       (λ h. absurd (let z : _≡_ {A = ℕ} 0 1 = cc in omega arith)) (λ w h. h)
 
 -- ---- 11

@@ -8,12 +8,10 @@ use lib.ListN.{length}
 use Rattle.words.specs.Choice.{if_then_else_}
 use Rattle.words.specs.Paper.{Paper, refusal, sourcePlace, accepted, told, toldOfJob, toldOfMapping}
 use Rattle.alu.specs.Function.{noFunction}
-use Rattle.binding.specs.Right.{isRight}
 use Rattle.verdict.specs.Verdicts.{Differs, wrongPaper, Ruling, Gives, Names}
 use Rattle.reader.specs.Starts.{gluePlace}
 use Rattle.reader.specs.declared.Mapping.{Mapping}
 use Rattle.table.specs.Parts.{bindingsOf, Terms, termsOf}
-use Rattle.claims.specs.Claim.{claimIn}
 use Rattle.fitting.specs.Pair.{pairOf}
 use Rattle.fitting.specs.Fitting.{fitOf}
 use Rattle.fitting.specs.declared.Pair.{Pair}
@@ -22,6 +20,7 @@ use Rattle.fitting.specs.declared.Fit.{Fit}
 use Rattle.fitting.specs.declared.Fit.the-variants.{Fits, Misfit}
 use Rattle.glue.specs.Glue.{glue}
 use Rattle.completeness.specs.Complete.{firstUnbound}
+use Rattle.rightness.specs.Rightness.{unlessWrong}
 use Rattle.checker.specs.declared.Checked.{Checked}
 use Rattle.checker.specs.declared.Checked.the-variants.{Accepted, JobRefused, MappingRefused, Refused, Wrong}
 
@@ -42,16 +41,7 @@ CheckRuled (Names c n) (MappingRefused r) = ⊥
 CheckRuled (Names c n) (Refused r) = ⊥
 CheckRuled (Names c n) (Wrong v) = Differs c n v
 
--- ---- 9, 10 and 11
-
--- "10. A wrong recipe; place: its function (lowest)." Bindings rise by function, so it is the first that is wrong; where none is, what
--- comes next.
-unfoldable pub unlessWrong : Terms → List ℕ → Ruling Checked → Ruling Checked
-unlessWrong t [] next = next
-unlessWrong t (w ∷ ws) next =
-    if not (isRight (claimIn (t .sources) (t .targets) w) (t .width))
-    then Names (claimIn (t .sources) (t .targets) w) (t .width)
-    else unlessWrong t ws next
+-- ---- 11
 
 -- "11. Glue count differs; place: its word."
 unfoldable pub accountOf : Terms → Mapping → List ℕ → Checked

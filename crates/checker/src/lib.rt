@@ -11,7 +11,6 @@ ghost use mathlib.Core.Path.{_≡_};
 ghost use Rattle.bits.specs.Asked as Q;
 ghost use Rattle.table.specs.Parts as T;
 ghost use Rattle.checker.specs.Check as C;
-ghost use Rattle.checker.specs.FirstWrong as W;
 
 // Accepted; the first refusal, 1 to 6, of the job or of the mapping; another, 7, 8, 9 or 11; or 10, with its values.
 pub enum Checked {
@@ -20,22 +19,6 @@ pub enum Checked {
     MappingRefused(Refusal),
     Refused(Refusal),
     Wrong(Witness),
-}
-
-// The verdict on the first binding that is wrong, or Right.
-fn first_wrong(job: Job, sources: &[u32], targets: &[u32], bindings: &[u32]) -> Verdict
-    requires { ⌜ Q.Width (job .width) ⌝ }
-    ensures { λ r. ⌜ W.SaysOfAll (T.termsWith job (now (sources .entry)) (now (targets .entry))) (now (bindings .entry)) r ⌝ }
-{
-    let mut i = 0;
-    while i < bindings.len() {
-        let verdict = claims::verdict_on(sources, targets, bindings[i], job.width);
-        let Verdict::Right = verdict else {
-            return verdict;
-        };
-        i += 1;
-    }
-    Verdict::Right
 }
 
 // Whether the glue word says what the glue of the bindings is. The tables of a job have no part in that.
@@ -76,7 +59,7 @@ fn judge_fitting(
             place: unbound as usize,
         });
     }
-    let verdict = first_wrong(job, sources, targets, bindings);
+    let verdict = rightness::first_wrong(job, sources, targets, bindings);
     match verdict {
         Verdict::Wrong(witness) => Checked::Wrong(witness),
         Verdict::Right => account(job, sources, targets, mapping, bindings),

@@ -2,7 +2,7 @@
 use crate::compare::Tallies;
 use crate::compare::compared;
 use crate::compare::none;
-use accounts::checking::count_for;
+use rulings::checking::count_for;
 use std::num::wrapping_add_usize;
 use testing::words::after;
 use testing::words::at;

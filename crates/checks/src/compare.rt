@@ -1,7 +1,7 @@
 // The checker and the pricer, each beside the reference's.
-use accounts::checking::check;
-use accounts::checking::price;
-use accounts::checking::wrong_is_borne_out;
+use rulings::checking::check;
+use rulings::checking::price;
+use rulings::checking::wrong_is_borne_out;
 use checker::Checked;
 use pricer::Priced;
 use reference::answer::Answer;

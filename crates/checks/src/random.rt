@@ -3,7 +3,7 @@
 use crate::compare::Tallies;
 use crate::compare::compared;
 use crate::compare::none;
-use accounts::checking::count_for;
+use rulings::checking::count_for;
 use reference::trial::next;
 use testing::words::first;
 use testing::words::glue_word;

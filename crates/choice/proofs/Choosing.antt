@@ -15,7 +15,7 @@ use Rattle.reader.specs.declared.Job.{Job}
 use Rattle.table.specs.Parts.{Terms, termsWith}
 use Rattle.usage.specs.Sets.{usage, usageOf}
 use Rattle.usage.proofs.Joining.{usage-more}
-use Rattle.glue.proofs.Joining.{glue-more}
+use Rattle.tally.proofs.Joining.{glue-more}
 use Rattle.best.specs.Best.{noRule, bestOf}
 use Rattle.choice.specs.Choose.{Choice, Mapped, Unmappable, withRule, choose}
 use Rattle.best.specs.Beside.{besides}

@@ -79,7 +79,7 @@ pub rule-some : (w : ℕ) → ruleFault w ≡ 0 → w ≡ 0 → ⊥
 unfolding ruleFault
 rule-some w h e = let z : ruleFault 0 ≡ 0 = ap ruleFault (sym e) ∙ h in omega arith
 
-nothing-there : (b : Bench) (w : ℕ) → isTaken b w ≡ false → getD (b .bound) (entryFor b w) 0 ≡ 0
+pub nothing-there : (b : Bench) (w : ℕ) → isTaken b w ≡ false → getD (b .bound) (entryFor b w) 0 ≡ 0
 unfolding isTaken
 nothing-there b w h = eqb-true (getD (b .bound) (entryFor b w) 0) 0 (not-false (eqb (getD (b .bound) (entryFor b w) 0) 0) h)
 

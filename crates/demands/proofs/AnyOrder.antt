@@ -24,7 +24,8 @@ use Rattle.choice.specs.Choose.{Mapped}
 use Rattle.mapper.specs.Mapping.{choiceOf}
 use Rattle.soundness.specs.Sound.{sourcesOn, targetsOn, ruleFault}
 use Rattle.soundness.proofs.Soundness.{a-rule}
-use Rattle.bench.specs.Calls.{soundBench, holding, gives, tableOf, tablesIn, opened, entryFor, boundAt, BindRuled}
+use Rattle.opening.specs.Opening.{tableOf, tablesIn}
+use Rattle.bench.specs.Calls.{soundBench, holding, gives, opened, entryFor, boundAt, BindRuled}
 use Rattle.entries.specs.Entries.{entryOf}
 use Rattle.bench.specs.declared.Bench.{Bench}
 use Rattle.bench.specs.declared.Answer.the-variants.{Done}

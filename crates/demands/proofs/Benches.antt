@@ -14,7 +14,8 @@ use Rattle.wellformed.proofs.JobWords.{JobFacts, well-formed}
 use Rattle.table.specs.Parts.{sourcesOf, targetsOf}
 use Rattle.table.specs.Table.{hasTarget}
 use Rattle.soundness.specs.Sound.{sourcesOn, targetsOn}
-use Rattle.bench.specs.Calls.{soundBench, holding, bindingsOn, tableOf, tablesIn, opened, openFor, openOf, priceOf, unboundOn, finishOf}
+use Rattle.opening.specs.Opening.{tableOf, tablesIn}
+use Rattle.bench.specs.Calls.{soundBench, holding, bindingsOn, opened, openFor, openOf, priceOf, unboundOn, finishOf}
 use Rattle.bench.specs.Shape.{Shaped}
 use Rattle.bench.specs.declared.Bench.{Bench}
 use Rattle.bench.specs.declared.After.{After}

@@ -32,7 +32,8 @@ use Rattle.fitting.specs.declared.Fit.{Fit}
 use Rattle.fitting.specs.declared.Fit.the-variants.{Fits, Misfit}
 use Rattle.fitting.proofs.Pairs.{both-read}
 use Rattle.pricer.specs.Pricing.{glueOf}
-use Rattle.checker.specs.Check.{paperOf, CheckRuled, unlessWrong, accountOf, fittingOf, unlessMisfit, judgementOf, ruledOf, rulingOf, Checks}
+use Rattle.checker.specs.Check.{paperOf, CheckRuled, accountOf, fittingOf, unlessMisfit, judgementOf, ruledOf, rulingOf, Checks}
+use Rattle.rightness.specs.Rightness.{unlessWrong}
 use Rattle.completeness.specs.Complete.{binds, firstUnbound}
 use Rattle.checker.specs.declared.Checked.{Checked}
 use Rattle.checker.specs.declared.Checked.the-variants.{Accepted, JobRefused, MappingRefused, Refused, Wrong}

@@ -22,7 +22,7 @@ use Rattle.claims.specs.Claim.{claimIn}
 use Rattle.usage.specs.Sets.{usage}
 use Rattle.usage.proofs.Joining.{usage-content}
 use Rattle.glue.specs.Glue.{glue}
-use Rattle.glue.proofs.Joining.{glue-same}
+use Rattle.tally.proofs.Joining.{glue-same}
 use Rattle.writer.specs.Write.{bindingWord, bindingWords}
 
 module _ (w : ℕ) where

@@ -1,7 +1,8 @@
--- The demands, each as a theorem of the contracts. A contract says of a call's answer which definition it equals; here stands what
--- that amounts to. Answers are told in document 01's numbers, by each call's `paperOf`.
+-- Demand 3, as theorems of the contracts; demand 1 is Refusals.antt, demand 2 Values.antt. A contract says of a call's answer which
+-- definition it equals; here stands what that amounts to. Answers are told in document 01's numbers, by each call's `paperOf`.
 use mathlib.Core.Path.{_≡_, refl, sym, ap, subst, _∙_}
 use mathlib.Core.Logic.{_↔_}
+use mathlib.Core.Bool.{true}
 use mathlib.Core.List.{List, [], _∷_, _++_, List·Permᴰ}
 use Prim.Native.Nat.{ℕ, _≤_, _<_}
 use native.Mathlib.Omega.{arith}
@@ -9,47 +10,49 @@ use lib.ListN.{length, drop, getD}
 use Rattle.words.specs.Paper.{Paper, accepted, refused}
 use Rattle.binding.specs.Right.{Right}
 use Rattle.binding.specs.declared.Claim.{Claim}
-use Rattle.verdict.specs.Verdicts.{Says, verdictPaper, Ruling}
+use Rattle.verdict.specs.Verdicts.{Says, verdictPaper, Ruling, Judged, judgementPaper}
 use Rattle.verdict.specs.declared.Verdict.{Verdict}
 use Rattle.verdict.specs.declared.Verdict.the-variants.{Right as IsRight, Wrong}
+use Rattle.verdict.specs.declared.Judgement.{Judgement}
 use Rattle.verdict.proofs.Verdicting.{not-right}
 use Rattle.sequence.specs.Limits.{mostSources}
 use Rattle.reader.specs.Job.{WellFormedJob}
-use Rattle.reader.specs.Mapping.{mappingOf}
-use Rattle.reader.specs.Mapping as reader
 use Rattle.reader.specs.declared.Job.{Job}
 use Rattle.reader.specs.declared.Mapping.{Mapping}
-use Rattle.wellformed.proofs.Numbers.{job-number}
-use Rattle.table.specs.Parts.{sourcesOf, rulesOf, bindingsOf, termsOf}
-use Rattle.pricer.specs.Pricing.{glueOf}
-use Rattle.writer.specs.Write.{bindingWords, wordsNeeded}
-use Rattle.choice.specs.Choose.{Choice, Mapped, Unmappable}
+use Rattle.table.specs.Parts.{sourcesOf, rulesOf, termsOf}
+use Rattle.writer.specs.Write.{wordsNeeded}
+use Rattle.choice.specs.Choose.{Mapped}
 use Rattle.mapper.specs.Mapping.{choiceOf, chosenWords, answerOf, lentAfterMap}
 use Rattle.mapper.specs.Mapping as mapper
 use Rattle.mapper.proofs.Answering.{sources-length}
 use Rattle.checker.specs.Check.{Checks}
 use Rattle.checker.specs.Check as checker
 use Rattle.checker.specs.declared.Checked.{Checked}
+use Rattle.soundness.specs.Sound.{tableWords}
+use Rattle.opening.specs.Opening.{tableOf}
 use Rattle.bench.specs.Calls.{soundBench, holding, opened, openOf, unboundOn, mappingOn, finishOf}
 use Rattle.bench.specs.Calls as bench
 use Rattle.bench.specs.Shape.{Shaped}
 use Rattle.bench.specs.declared.Bench.{Bench}
 use Rattle.bench.specs.declared.After.{After}
-use Rattle.demands.specs.Mapped.{Fitting, Complete, RightAt, RightlyMapped, NamesWrong}
-use Rattle.demands.specs.Choice.{ServedAt, LeastAt, LowestUnserved, Mappable, Maps}
+use Rattle.demands.specs.Mapped.{RightRecipe, Fitting, Complete, RightAt, RightlyMapped, NamesWrong}
+use Rattle.demands.specs.Choice.{Mappable, Maps}
 use Rattle.demands.specs.Benches.{Reached, BenchOf, BindsAll, Finishes}
-use Rattle.demands.proofs.Choice.{all-served, chosen-served, mapped-chosen}
-use Rattle.demands.proofs.Written.{Bindable, reads-back, same-bindings}
-use Rattle.demands.proofs.Chosen.{least-at, chosen-bindable}
+use Rattle.demands.proofs.Choice.{all-served}
+use Rattle.demands.proofs.Written.{Bindable}
+use Rattle.demands.proofs.Chosen.{chosen-bindable}
 use Rattle.demands.proofs.Accepted.{rightly-mapped}
-use Rattle.demands.proofs.Sources.{served-at, at-served, unmappable-lowest}
-use Rattle.demands.proofs.Outcomes.{accepted-apart, Outcome, Unread, Unmapped, Short, Writes, outcome, unmappable-answer, mapped-writes}
+use Rattle.demands.proofs.Sources.{at-served}
+use Rattle.demands.proofs.Outcomes.{accepted-apart, Outcome, Unread, Unmapped, Short, Writes, outcome, mapped-writes}
 use Rattle.demands.proofs.Accepting.{accepted-exactly, wrong-whatever-the-price}
-use Rattle.demands.proofs.Allowed.{Allowed, Outcome as Bind, Bound, Unchanged, outcome as bind, allowed-gives}
+use Rattle.demands.proofs.Allowed.{Allowed, allowed-gives}
 use Rattle.demands.proofs.Finished.{finishes}
 use Rattle.demands.proofs.Benches.{opens, reached-of-job}
 use Rattle.demands.proofs.AnyOrder.{choice-allowed, order-binds, order-ends, order-of-job}
-use Rattle.demands.proofs.Finishing.{bench-shaped, bound-rightly-mapped, same-answer, same-lent, refused-lent}
+use Rattle.demands.proofs.Finishing.{bench-shaped, bound-rightly-mapped, same-answer, same-lent}
+use Rattle.demands.proofs.OwnJob.{of-own-job}
+use Rattle.demands.proofs.Values.{chosen-each}
+use Rattle.demands.proofs.Judging.{judged-right, right-judged}
 
 -- ---- the verdict: "A binding, or the recipe of a rule, is right if at the job's width, for every left, every right and both carries,
 -- its four ports equal those of its source function at the same left, right and carry; else it is wrong."
@@ -59,6 +62,10 @@ accepts-exactly-the-right c n (Wrong x) says = (
   λ e. let z : _≡_ {A = ℕ} 10 0 = ap (λ (x : Paper). x .number) e in absurd (omega arith),
   λ h. absurd (not-right c n x says h),
 )
+
+-- `judge` accepts exactly the right recipes, whatever word and width are handed in
+pub judge-accepts-exactly-the-right : (w n : ℕ) (j : Judgement) → Judged w n j → (judgementPaper j ≡ accepted []) ↔ RightRecipe w n
+judge-accepts-exactly-the-right w n j answer = (judged-right w n j answer, right-judged w n j answer)
 
 -- ---- the checker: "A mapping is accepted exactly when job and mapping are well formed, it fits, is complete and rightly priced, and
 -- every binding equals its source function on every port, for all operands and both carries, at the job's width."
@@ -89,15 +96,6 @@ module _ (ws lent : List ℕ) where
       let w = mapped-writes ws lent job e (c .0) (c .1) h in
       record { job = job; well-formed = e; bound = c .0; choice = c .1; enough = h; answer = w .0; lent-after = w .1 }
 
-  -- a choice was made, so each source has a usable rule
-  chosen-each : (job : Job) → WellFormedJob ws job → (bound : List ℕ) → choiceOf ws job ≡ Mapped bound
-      → (k : ℕ) → k < job .sources → ServedAt ws job k
-  chosen-each job e bound c k h =
-      let size = sources-length ws job e in
-      served-at ws job k h
-      (chosen-served (termsOf ws job) (rulesOf ws job) (sourcesOf ws job) bound
-      (mapped-chosen (termsOf ws job) (rulesOf ws job) (sourcesOf ws job) [] bound c) k (omega arith))
-
   -- and where it writes one, they do.
   pub writes-only-what-can-be-mapped : (n : ℕ) → mapper.paperOf (answerOf ws lent) ≡ accepted (n ∷ [])
       → (m : Mappable ws) × (wordsNeeded (m .job .sources) ≤ length lent)
@@ -108,41 +106,7 @@ module _ (ws lent : List ℕ) where
       by-outcome (Unmapped job place e c p _) = accepted-apart n 12 place (sym a ∙ p)
       by-outcome (Short job bound e c h p _) = accepted-apart n 23 (wordsNeeded (job .sources)) (sym a ∙ p)
       by-outcome (Writes job bound e c h _ _) =
-          (record { job = job; well-formed = e; each-served = chosen-each job e bound c }, h)
-
-  -- "A function is unmappable only if no usable rule for it is in the job": it is the lowest such function,
-  pub unmappable-names-the-lowest : (place : ℕ) → mapper.paperOf (answerOf ws lent) ≡ refused 12 place
-      → (job : Job) × (WellFormedJob ws job × LowestUnserved ws job place)
-  unmappable-names-the-lowest place a = by-outcome (outcome ws lent)
-    where
-      by-outcome : Outcome ws lent → (job : Job) × (WellFormedJob ws job × LowestUnserved ws job place)
-      by-outcome (Unread r e p _) =
-          let z : 12 ≡ r .number = ap (λ (x : Paper). x .number) (sym a ∙ p) in
-          absurd (omega (arith, job-number r ws e))
-      by-outcome (Unmapped job i e c p _) =
-          (job, (e, subst (LowestUnserved ws job) (ap (λ (x : Paper). x .place) (sym p ∙ a)) (unmappable-lowest ws job e i c)))
-      by-outcome (Short job bound e c h p _) =
-          let z : _≡_ {A = ℕ} 12 23 = ap (λ (x : Paper). x .number) (sym a ∙ p) in absurd (omega arith)
-      by-outcome (Writes job bound e c h p _) = accepted-apart (wordsNeeded (job .sources)) 12 place (sym p ∙ a)
-
-  -- and where there is one the job is refused so.
-  pub unmappable-is-refused : (job : Job) → WellFormedJob ws job → (k : ℕ) → k < job .sources → (ServedAt ws job k → ⊥)
-      → (place : ℕ) × (mapper.paperOf (answerOf ws lent) ≡ refused 12 place)
-  unmappable-is-refused job e k h unserved = by-choice (choiceOf ws job) refl
-    where
-      by-choice : (c : Choice) → choiceOf ws job ≡ c → (place : ℕ) × (mapper.paperOf (answerOf ws lent) ≡ refused 12 place)
-      by-choice (Mapped bound) c = absurd (unserved (chosen-each job e bound c k h))
-      by-choice (Unmappable place) c = (place, unmappable-answer ws lent job e place c)
-
-  -- "A refusal .. writes to no lent word."
-  pub refused-writes-nothing : (number place : ℕ) → mapper.paperOf (answerOf ws lent) ≡ refused number place → lentAfterMap ws lent ≡ lent
-  refused-writes-nothing number place a = by-outcome (outcome ws lent)
-    where
-      by-outcome : Outcome ws lent → lentAfterMap ws lent ≡ lent
-      by-outcome (Unread r e _ kept) = kept
-      by-outcome (Unmapped job i e c _ kept) = kept
-      by-outcome (Short job bound e c h _ kept) = kept
-      by-outcome (Writes job bound e c h p _) = accepted-apart (wordsNeeded (job .sources)) number place (sym p ∙ a)
+          (record { job = job; well-formed = e; each-served = chosen-each ws job e bound c }, h)
 
   module _ (m : Maps ws lent) where
     usable-rules : Bindable ws (m .job) (m .bound)
@@ -154,35 +118,7 @@ module _ (ws lent : List ℕ) where
         accepted-exactly ws (chosenWords (m .job) (m .bound)) r answer .1
         (rightly-mapped ws (m .job) (m .well-formed) (m .bound) usable-rules)
 
-    -- "A written mapping reads back to the same bindings and count."
-    pub reads-back-the-same : reader.paperOf (mappingOf (chosenWords (m .job) (m .bound)))
-        ≡ accepted (m .job .width ∷ length (bindingWords (m .bound)) ∷ glueOf (m .job) (m .bound) ∷ [])
-    reads-back-the-same = ap reader.paperOf (reads-back ws (m .job) (m .well-formed) (m .bound) usable-rules)
-
-    pub reads-back-the-same-bindings : bindingsOf (chosenWords (m .job) (m .bound))
-        (record { width = m .job .width; bindings = length (bindingWords (m .bound)); glue = glueOf (m .job) (m .bound) })
-        ≡ bindingWords (m .bound)
-    reads-back-the-same-bindings = same-bindings ws (m .job) (m .well-formed) (m .bound) usable-rules
-
-    -- each chosen rule is a rule of the job, usable, and no usable rule gives less at its turn, none earlier gives as little
-    pub each-choice-least : (k : ℕ) → k < length (m .bound) → LeastAt ws (m .job) (m .bound) k
-    each-choice-least k h = least-at ws (m .job) (m .well-formed) (m .bound) (m .choice) k h
-
 -- ---- the bench
-
--- "Every refusal gives number and place .. Lent words and the bench stay unchanged": a bind that is not accepted leaves the bench,
-pub refused-bind-changes-nothing : (b : Bench) (w : ℕ) (r : After) → bench.Binds b w r
-    → (bench.paperOf (r .answer) ≡ accepted [] → ⊥) → r .bench ≡ b
-refused-bind-changes-nothing b w r answer refused = by-outcome (bind b w r answer)
-  where
-    by-outcome : Bind b w r → r .bench ≡ b
-    by-outcome (Bound _ e) = absurd (refused (ap (λ (x : After). bench.paperOf (x .answer)) e))
-    by-outcome (Unchanged _ e) = e
-
--- and a refused finish the lent words.
-pub refused-finish-writes-nothing : (b : Bench) → Shaped b → (lent : List ℕ) (number place : ℕ)
-    → bench.paperOf (finishOf b lent .answer) ≡ refused number place → bench.lentAfterFinish b lent ≡ lent
-refused-finish-writes-nothing b h lent number place e = refused-lent b h lent number place e
 
 module _ (ws : List ℕ) (job : Job) (e : WellFormedJob ws job) where
   -- "A sound bench has ..": every bench that calls come to from opening the job on is sound, with the job's tables
@@ -220,18 +156,18 @@ module _ (ws : List ℕ) (job : Job) (e : WellFormedJob ws job) where
       -- so every order can be carried out,
       pub every-order-binds : (end : Bench) × BindsAll (openOf ws .bench) order end
       every-order-binds = (
-        holding (opened ws job) (bench.tableOf mostSources bound),
-        subst (λ (x : Bench). BindsAll x order (holding (opened ws job) (bench.tableOf mostSources bound))) (sym (opens ws job e))
+        holding (opened ws job) (tableOf mostSources bound),
+        subst (λ (x : Bench). BindsAll x order (holding (opened ws job) (tableOf mostSources bound))) (sym (opens ws job e))
             (order-binds ws job e bound choice order p),
       )
 
       -- and whatever it comes to holds the choice, and answers and writes as the mapper does.
       module _ (end : Bench) (q : BindsAll (openOf ws .bench) order end) where
-        the-end : end ≡ holding (opened ws job) (bench.tableOf mostSources bound)
+        the-end : end ≡ holding (opened ws job) (tableOf mostSources bound)
         the-end =
             order-ends ws job e bound choice order p end (subst (λ (x : Bench). BindsAll x order end) (opens ws job e) q)
 
-        pub every-order-holds-the-choice : end .bound ≡ bench.tableOf mostSources bound
+        pub every-order-holds-the-choice : end .bound ≡ tableOf mostSources bound
         every-order-holds-the-choice = ap (λ (x : Bench). x .bound) the-end
 
         pub every-order-answers-the-same : (lent : List ℕ)
@@ -244,3 +180,12 @@ module _ (ws : List ℕ) (job : Job) (e : WellFormedJob ws job) where
         every-order-writes-the-same lent =
             ap (λ (x : Bench). bench.lentAfterFinish x lent) the-end
             ∙ same-lent ws job e bound choice (order-of-job ws job e bound choice order p) lent
+
+-- a sound bench with every source bound finishes, however it came about, and what it writes is accepted with the job of its own tables
+pub every-sound-bench-finishes : (b : Bench) → Shaped b → soundBench b ≡ true → unboundOn b ≡ 0 → (lent : List ℕ)
+    → wordsNeeded (b .tables .nsources) ≤ length lent
+    → (job : Job) × (WellFormedJob (tableWords (b .tables)) job × Finishes (tableWords (b .tables)) job b lent)
+every-sound-bench-finishes b h s u lent enough =
+    let j = of-own-job b h s in
+    let n = ap (λ (x : Bench). x .tables .nsources) (j .1 .1 .as-opened) in
+    (j .0, (j .1 .0, sound-bench-finishes (tableWords (b .tables)) (j .0) (j .1 .0) b (j .1 .1) u lent (omega (arith, n))))

@@ -1,7 +1,7 @@
 -- A job's bench with every source bound: what it writes is what an accepted mapping is, and of the mapper's choice it is what the
 -- mapper writes. A refused finish writes nothing.
 use mathlib.Core.Path.{_≡_, refl, sym, ap, subst, _∙_}
-use mathlib.Core.Bool.{Bool, true, false, not}
+use mathlib.Core.Bool.{Bool, true, false, not, true≢false}
 use mathlib.Core.List.{List}
 use Prim.Native.Nat.{ℕ, _<_}
 use native.Mathlib.Omega.{arith}
@@ -9,7 +9,7 @@ use lib.Dec.{eqb, ltb}
 use lib.ListN.{length, getD, List·getD-append}
 use borrow.Author.Tests.{eq-eqb, eqb-true, ltb-true}
 use Rattle.words.specs.Choice.{if_then_else_}
-use Rattle.words.specs.Paper.{refusal, refused}
+use Rattle.words.specs.Paper.{refusal}
 use Rattle.sequence.specs.Limits.{mostSources}
 use Rattle.reader.specs.Job.{WellFormedJob}
 use Rattle.reader.specs.declared.Job.{Job}
@@ -22,11 +22,13 @@ use Rattle.choice.specs.Choose.{Mapped}
 use Rattle.mapper.specs.Mapping.{choiceOf, chosenWords, answerOf}
 use Rattle.mapper.specs.Mapping as mapper
 use Rattle.soundness.specs.Sound.{sourcesOn}
-use Rattle.bench.specs.Calls.{soundBench, holding, bindingsOn, tableOf, opened, glueOn, unboundOn, finishWritten, mappingOn, finishOf, lentAfterFinish, paperOf}
+use Rattle.opening.specs.Opening.{tableOf}
+use Rattle.bench.specs.Calls.{soundBench, holding, bindingsOn, opened, glueOn, unboundOn, finishWritten, mappingOn, finishOf, lentAfterFinish, paperOf}
 use Rattle.bench.specs.Shape.{Shaped}
 use Rattle.bench.specs.declared.Bench.{Bench}
 use Rattle.bench.specs.declared.Answer.the-variants.{Refused}
 use Rattle.bench.proofs.Finishing.{all-bound}
+use Rattle.demands.specs.Answers.{callAccepts}
 use Rattle.demands.specs.Mapped.{RightlyMapped}
 use Rattle.demands.specs.Benches.{BenchOf}
 use Rattle.demands.proofs.OpenedSound.{table-words, source-count}
@@ -35,7 +37,6 @@ use Rattle.demands.proofs.Finished.{none-empty, binding-number}
 use Rattle.demands.proofs.Accepted.{rightly-mapped}
 use Rattle.demands.proofs.Benches.{same-sources, shaped, all-bindable}
 use Rattle.demands.proofs.AnyOrder.{size, is-rule}
-use Rattle.demands.proofs.Outcomes.{accepted-apart}
 
 module _ (ws : List ℕ) (job : Job) (e : WellFormedJob ws job) (b : Bench) (o : BenchOf ws job b) where
   pub bench-shaped : Shaped b
@@ -95,14 +96,14 @@ module _ (ws : List ℕ) (job : Job) (e : WellFormedJob ws job) (bound : List �
 
 -- ---- a refused finish
 
-module _ (b : Bench) (h : Shaped b) (lent : List ℕ) (number place : ℕ) where
-  pub refused-lent : paperOf (finishOf b lent .answer) ≡ refused number place → lentAfterFinish b lent ≡ lent
+module _ (b : Bench) (h : Shaped b) (lent : List ℕ) where
+  pub refused-lent : callAccepts (finishOf b lent .answer) ≡ false → lentAfterFinish b lent ≡ lent
   unfolding finishOf lentAfterFinish writtenOf
   refused-lent e = by-soundness (soundBench b) refl (eqb (unboundOn b) 0) refl e
     where
       too-few : soundBench b ≡ true → unboundOn b ≡ 0 → (c : Bool) → ltb (length lent) (wordsNeeded (b .tables .nsources)) ≡ c
-          → paperOf (finishWritten (if c then TooFew (refusal 23 (wordsNeeded (b .tables .nsources))) else Words (wordsNeeded (b .tables .nsources))))
-          ≡ refused number place
+          → callAccepts (finishWritten (if c then TooFew (refusal 23 (wordsNeeded (b .tables .nsources))) else Words (wordsNeeded (b .tables .nsources))))
+          ≡ false
           → lentAfter (mappingOn b) lent ≡ lent
       too-few s u true z e =
           untouched (mappingOn b) lent
@@ -112,14 +113,14 @@ module _ (b : Bench) (h : Shaped b) (lent : List ℕ) (number place : ℕ) where
             mapping-length (b .tables .width) (glueOn b) (bindingsOn b),
             binding-number b h s u,
           ))
-      too-few s u false z e = accepted-apart (wordsNeeded (b .tables .nsources)) number place e
+      too-few s u false z e = absurd (true≢false e)
 
       by-soundness : (p : Bool) → soundBench b ≡ p → (q : Bool) → eqb (unboundOn b) 0 ≡ q
-          → paperOf
+          → callAccepts
           (if not p then Refused (refusal 20 0)
           else if not q then Refused (refusal 22 (unboundOn b))
           else finishWritten (writtenOf (b .tables .nsources) lent))
-          ≡ refused number place
+          ≡ false
           → (if not p then lent else if not q then lent else lentAfter (mappingOn b) lent) ≡ lent
       by-soundness true s true u e =
           too-few s (eqb-true (unboundOn b) 0 u) (ltb (length lent) (wordsNeeded (b .tables .nsources))) refl e

@@ -16,7 +16,8 @@ use Rattle.binding.specs.Right.{isRight}
 use Rattle.verdict.specs.Verdicts.{Ruling, Names}
 use Rattle.table.specs.Parts.{Terms}
 use Rattle.claims.specs.Claim.{claimIn}
-use Rattle.checker.specs.Check.{CheckRuled, unlessWrong}
+use Rattle.checker.specs.Check.{CheckRuled}
+use Rattle.rightness.specs.Rightness.{unlessWrong}
 use Rattle.completeness.specs.Complete.{binds, firstUnbound}
 use Rattle.checker.specs.declared.Checked.{Checked}
 use Rattle.checker.specs.declared.Checked.the-variants.{Accepted}

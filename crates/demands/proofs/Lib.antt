@@ -19,4 +19,9 @@ pub mod Finished
 pub mod Benches
 pub mod AnyOrder
 pub mod Finishing
+pub mod OwnJob
+pub mod Entries
+pub mod Judging
+pub mod Refusals
+pub mod Values
 pub mod Demands

@@ -23,7 +23,8 @@ use Rattle.wellformed.proofs.JobAccepting.{laid, laid-well-formed, accepts}
 use Rattle.table.specs.Parts.{sourcesOf, targetsOf}
 use Rattle.soundness.specs.Sound.{sourcesOn, targetsOn, tableWords, holds, tablesSound, empty, entrySound, boundSound, isSound}
 use Rattle.soundness.proofs.Soundness.{sound-when}
-use Rattle.bench.specs.Calls.{soundBench, tableOf, tablesIn, opened, benchOfZeros, openOf, openFor}
+use Rattle.opening.specs.Opening.{tableOf, tablesIn}
+use Rattle.bench.specs.Calls.{soundBench, opened, benchOfZeros, openOf, openFor}
 use Rattle.bench.specs.declared.Bench.{Bench}
 use Rattle.bench.specs.declared.Answer.the-variants.{Done}
 

@@ -24,7 +24,7 @@ use Rattle.checker.specs.Check.{paperOf, CheckRuled, accountOf, fittingOf, unle
 use Rattle.completeness.specs.Complete.{firstUnbound}
 use Rattle.checker.specs.declared.Checked.{Checked}
 use Rattle.checker.specs.declared.Checked.the-variants.{Accepted, JobRefused, MappingRefused, Refused, Wrong}
-use Rattle.checker.proofs.Rulings.{right-or-named}
+use Rattle.rightness.proofs.Judging.{right-or-named}
 
 -- a ruling that no refusal without a number meets
 abbrev Numbered : Ruling Checked → Type 0

@@ -1,17 +1,23 @@
 -- The words in which the bench's promises are said: document 01, "Mapper and bench".
-use Prim.Native.Nat.{ℕ}
+use Prim.Native.Nat.{ℕ, _<_, _≤_}
 use mathlib.Core.Path.{_≡_}
 use mathlib.Core.Bool.{true}
 use mathlib.Core.List.{List, [], _∷_, _++_}
-use lib.ListN.{length, drop}
-use Rattle.words.specs.Paper.{accepted}
+use lib.ListN.{length, take, drop, getD}
+use Rattle.words.specs.Field.{sourceFunction}
+use Rattle.words.specs.Paper.{sourcePlace, accepted}
+use Rattle.recipe.specs.Fields.{sourceOf}
 use Rattle.sequence.specs.Limits.{mostSources}
+use Rattle.reader.specs.Starts.{bindingsStart}
+use Rattle.reader.specs.Mapping.{mappingOf}
+use Rattle.reader.specs.Mapping as reader
 use Rattle.reader.specs.declared.Job.{Job}
-use Rattle.writer.specs.Write.{wordsNeeded}
+use Rattle.writer.specs.Write.{bindingWords, wordsNeeded}
 use Rattle.checker.specs.Check.{Checks}
 use Rattle.checker.specs.Check as checker
 use Rattle.checker.specs.declared.Checked.{Checked}
-use Rattle.bench.specs.Calls.{soundBench, holding, opened, openOf, Binds, priceOf, mappingOn, finishOf, lentAfterFinish, paperOf}
+use Rattle.soundness.specs.Sound.{nothing, sourcesOn}
+use Rattle.bench.specs.Calls.{soundBench, bindingsOn, holding, opened, openOf, Binds, glueOn, priceOf, mappingOn, finishOf, lentAfterFinish, paperOf}
 use Rattle.bench.specs.declared.Bench.{Bench}
 use Rattle.bench.specs.declared.After.{After}
 
@@ -39,3 +45,34 @@ pub record Finishes (ws : List ℕ) (job : Job) (b : Bench) (lent : List ℕ) : 
   pub bench-after : finishOf b lent .bench ≡ b
   pub lent-after : lentAfterFinish b lent ≡ mappingOn b ++ drop (wordsNeeded (job .sources)) lent
   pub accepted-with-job : (r : Checked) → Checks ws (mappingOn b) r → checker.paperOf r ≡ accepted []
+
+-- the function of a bench's k-th source, and what is bound to it
+abbrev pub functionOn : Bench → ℕ → ℕ
+functionOn b k = sourceFunction (getD (sourcesOn (b .tables)) k 0)
+
+abbrev pub entryOn : Bench → ℕ → ℕ
+entryOn b k = getD (b .bound) k nothing
+
+-- "A bind adds just its own binding": in the entry of its source, where nothing was, and nothing else of the bench
+pub record Adds (b : Bench) (w : ℕ) (after : Bench) : Type 0 where
+  pub entry : ℕ
+  pub within : entry < b .tables .nsources
+  pub its-source : functionOn b entry ≡ sourceOf w
+  pub was-empty : entryOn b entry ≡ nothing
+  pub holds-it : entryOn after entry ≡ w
+  pub others-same : (k : ℕ) → (k ≡ entry → ⊥) → entryOn after k ≡ entryOn b k
+  pub entries-same : length (after .bound) ≡ length (b .bound)
+  pub tables-same : after .tables ≡ b .tables
+
+-- words read back to a bench's bindings and count
+pub record ReadsBack (b : Bench) (words : List ℕ) : Type 0 where
+  pub answer : reader.paperOf (mappingOf words) ≡ accepted (b .tables .width ∷ b .tables .nsources ∷ glueOn b ∷ [])
+  pub bindings : take (b .tables .nsources) (drop bindingsStart words) ≡ bindingWords (bindingsOn b)
+
+-- "22. Finish: source unbound; place: lowest."
+pub record LowestUnbound (b : Bench) (place : ℕ) : Type 0 where
+  pub index : ℕ
+  pub within : index < b .tables .nsources
+  pub unbound : entryOn b index ≡ nothing
+  pub is-place : sourcePlace (functionOn b index) ≡ place
+  pub lowest : (k : ℕ) → k < b .tables .nsources → entryOn b k ≡ nothing → functionOn b index ≤ functionOn b k

@@ -3,14 +3,18 @@
 -- if 11 does not."
 use Prim.Native.Nat.{ℕ, _+_, _<_, _≤_}
 use mathlib.Core.Path.{_≡_}
+use mathlib.Core.Bool.{true}
 use mathlib.Core.List.{List, [], _∷_}
 use lib.ListN.{getD}
-use Rattle.words.specs.Field.{sourceFunction}
-use Rattle.words.specs.Paper.{sourcePlace, refused, refusedWith}
+use Rattle.words.specs.Field.{kindOf, sourceFunction}
+use Rattle.words.specs.Kinds.{isRecipe}
+use Rattle.words.specs.Paper.{noRefusal, sourcePlace, refused, refusedWith}
 use Rattle.words.specs.declared.Witness.{Witness}
 use Rattle.bits.specs.Bits.{num}
+use Rattle.alu.specs.Range.{isWidth}
 use Rattle.recipe.specs.Fields.{sourceOf}
-use Rattle.binding.specs.Right.{Right}
+use Rattle.layout.specs.Layout.{recipeFault}
+use Rattle.binding.specs.Right.{Right, claimOf}
 use Rattle.binding.specs.declared.Claim.{Claim}
 use Rattle.verdict.specs.Verdicts.{Differs}
 use Rattle.reader.specs.Job.{WellFormedJob}
@@ -25,6 +29,13 @@ use Rattle.fitting.specs.declared.Fit.the-variants.{Fits}
 use Rattle.pricer.specs.Pricing.{glueOf}
 use Rattle.checker.specs.Check.{paperOf}
 use Rattle.checker.specs.declared.Checked.{Checked}
+
+-- a word and a width that the judge is to accept: a rule or a binding that passes 3, 5 and 6, a width, and the recipe right at it
+pub record RightRecipe (w n : ℕ) : Type 0 where
+  pub a-recipe : isRecipe (kindOf w) ≡ true
+  pub faultless : recipeFault w ≡ noRefusal
+  pub a-width : isWidth n ≡ true
+  pub right : Right (claimOf w) n
 
 -- the function of the job's i-th source word, and the mapping's k-th binding
 abbrev pub sourceAt : List ℕ → ℕ → ℕ

@@ -10,8 +10,8 @@ use Rattle.recipe.specs.Fields.{sourceOf}
 use Rattle.sequence.specs.Limits.{mostSources, mostTargets}
 use Rattle.usage.specs.Sets.{usage}
 use Rattle.glue.specs.Glue.{glue}
-use Rattle.glue.specs.Parts.{setCount}
-use Rattle.glue.proofs.Joining.{price-is-glue}
+use Rattle.tally.specs.Parts.{setCount}
+use Rattle.tally.proofs.Joining.{price-is-glue}
 use Rattle.soundness.specs.Shape.{TablesShaped}
 use Rattle.soundness.specs.Sound.{filled, sourcesOn, tablesSound}
 use Rattle.soundness.specs.declared.Tables.{Tables}

@@ -71,5 +71,5 @@ pub fn glue_on(tables: Tables, bound: [u32; MOST_SOURCES]) -> u32
     ensures { λ r. ⌜ (r ≡ G.glue (tables .width) (tables .prices) (S.filled bound)) × (r < 2 ^ 28) ⌝ }
 {
     let prices = tables.prices;
-    glue::price(search::usage_of(&bound), tables.width, prices)
+    tally::price(search::usage_of(&bound), tables.width, prices)
 }

@@ -10,7 +10,7 @@ use lib.ListN.{getD, length, set}
 use lib.Seq.{getD-set-same, getD-set-other}
 use borrow.Author.Tests.{not-true, not-false}
 use Rattle.binding.specs.declared.Side.{Side}
-use Rattle.binding.specs.declared.Outputs.{Outputs}
+use Rattle.output.specs.declared.Outputs.{Outputs}
 use Rattle.binding.specs.declared.Recipe.{Recipe}
 use Rattle.automaton.specs.Machine.{cellOf, nextBy, alikeBy, lastBy}
 use Rattle.automaton.specs.declared.Cell.{Cell}

@@ -10,7 +10,7 @@ use mathlib.Core.List.{List}
 use Rattle.words.specs.Choice.{if_then_else_}
 use Rattle.bits.specs.Bits.{num, bit, word}
 use Rattle.binding.specs.declared.Side.{Side}
-use Rattle.binding.specs.declared.Outputs.{Outputs}
+use Rattle.output.specs.declared.Outputs.{Outputs}
 use Rattle.binding.specs.declared.Recipe.{Recipe}
 use Rattle.automaton.specs.Place.{still}
 use Rattle.automaton.specs.Machine.{cellOf, nextBy, alikeBy, lastBy, agreesFrom}

@@ -2,7 +2,7 @@
 use automaton::Cell;
 use automaton::Ripple;
 use automaton::State;
-use binding::Outputs;
+use output::Outputs;
 use binding::Recipe;
 use binding::Side;
 ghost use mathlib.Core.Path.{_≡_};

@@ -19,7 +19,7 @@ use Rattle.bits.specs.Asked.{Width}
 use Rattle.usage.proofs.Bits.{one-shifted}
 use Rattle.glue.specs.Glue.{distinct, codePrice, codesCount, comparisonCodes}
 use Rattle.glue.specs.Asked.{InRange}
-use Rattle.glue.specs.Parts.{codes}
+use Rattle.glue.specs.Codes.{codes}
 use Rattle.glue.proofs.Bounds.{distinct-most, codes-count-most}
 
 -- ---- codes counted by their bits

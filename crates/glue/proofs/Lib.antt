@@ -1,4 +1,2 @@
-pub mod Joining
 pub mod Bounds
 pub mod Counts
-pub mod Lines

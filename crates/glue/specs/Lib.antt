@@ -1,3 +1,3 @@
 pub mod Glue
-pub mod Parts
+pub mod Codes
 pub mod Asked

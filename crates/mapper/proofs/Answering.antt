@@ -21,8 +21,8 @@ use Rattle.wellformed.proofs.JobWords.{JobFacts, well-formed}
 use Rattle.table.specs.Parts.{sourcesOf, targetsOf, rulesOf, termsWith}
 use Rattle.glue.specs.Glue.{glue}
 use Rattle.usage.specs.Sets.{usage}
-use Rattle.glue.specs.Parts.{setCount}
-use Rattle.glue.proofs.Joining.{price-is-glue}
+use Rattle.tally.specs.Parts.{setCount}
+use Rattle.tally.proofs.Joining.{price-is-glue}
 use Rattle.writer.specs.Asked.{Writable}
 use Rattle.writer.specs.Write.{mappingWords, writtenOf, lentAfter}
 use Rattle.writer.specs.declared.Written.{Written}

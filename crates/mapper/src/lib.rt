@@ -36,7 +36,7 @@ fn write_chosen(job: Job, chosen: Chosen, lent: &mut [u32]) -> Written
 {
     let width = job.width;
     let prices = job.prices;
-    let count = glue::price(chosen.used, width, prices);
+    let count = tally::price(chosen.used, width, prices);
     let sources = job.sources as usize;
     let bound = chosen.words;
     writer::write_mapping(width, &bound[..sources], count, lent)

@@ -13,8 +13,8 @@ use Rattle.fitting.specs.declared.Pair.the-variants as pair
 use Rattle.fitting.specs.declared.Fit.{Fit}
 use Rattle.fitting.specs.declared.Fit.the-variants.{Fits, Misfit}
 use Rattle.usage.specs.Sets.{usage}
-use Rattle.glue.specs.Parts.{setCount}
-use Rattle.glue.proofs.Joining.{price-is-glue}
+use Rattle.tally.specs.Parts.{setCount}
+use Rattle.tally.proofs.Joining.{price-is-glue}
 use Rattle.pricer.specs.Pricing.{glueOf, counted, pricedUnder, pricedPair, pricingOf}
 use Rattle.pricer.specs.declared.Priced.{Priced}
 use Rattle.pricer.specs.declared.Priced.the-variants.{Count, JobRefused, MappingRefused, Refused}

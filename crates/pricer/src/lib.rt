@@ -25,7 +25,7 @@ pub fn glue_of(job: Job, bindings: &[u32]) -> u32
 {
     let prices = job.prices;
     let used = usage::joined(bindings);
-    glue::price(used, job.width, prices)
+    tally::price(used, job.width, prices)
 }
 
 // A mapping that was read is priced under a job that was read.

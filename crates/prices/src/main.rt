@@ -32,7 +32,7 @@ fn price(usage: u64, costs: Costs) -> u64 {
         gate: (costs.gate % 256) as u8,
         multiplexer: (costs.multiplexer % 256) as u8,
     };
-    let count = glue::price(usage, n, prices);
+    let count = tally::price(usage, n, prices);
     count as u64
 }
 

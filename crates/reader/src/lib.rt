@@ -82,7 +82,7 @@ pub fn read_job(words: &[u32]) -> JobRead
             place: 0,
         });
     }
-    let reading = grammar::read_words(File::AsJob, words);
+    let reading = scan::read_words(File::AsJob, words);
     match reading {
         Reading::Stopped(refusal) => JobRead::Refused(refusal),
         Reading::Passed(s) => {
@@ -122,7 +122,7 @@ pub fn read_mapping(words: &[u32]) -> MappingRead
             place: 0,
         });
     }
-    let reading = grammar::read_words(File::AsMapping, words);
+    let reading = scan::read_words(File::AsMapping, words);
     match reading {
         Reading::Stopped(refusal) => MappingRead::Refused(refusal),
         Reading::Passed(s) => {

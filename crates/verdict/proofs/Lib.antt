@@ -1,2 +1,1 @@
 pub mod Verdicting
-pub mod Found

@@ -20,10 +20,10 @@ use Rattle.binding.specs.Binding.{sideShows, shows}
 use Rattle.binding.specs.Right.{Right, isRight, claimOf}
 use Rattle.binding.specs.declared.Claim.{Claim}
 use Rattle.binding.proofs.Tests.{right-test}
-use Rattle.verdict.specs.Search.{Found}
+use Rattle.search.specs.Search.{Found}
 use Rattle.verdict.specs.Verdicts.{lowestPort, noPort, Says, Sentence, Refuses, Decides, judgeOf, Passes, Judged}
-use Rattle.verdict.specs.declared.search.Outcome.{Outcome}
-use Rattle.verdict.specs.declared.search.Outcome.the-variants.{Holds, Fails}
+use Rattle.search.specs.declared.Outcome.{Outcome}
+use Rattle.search.specs.declared.Outcome.the-variants.{Holds, Fails}
 use Rattle.verdict.specs.declared.Verdict.{Verdict}
 use Rattle.verdict.specs.declared.Verdict.the-variants.{Right as IsRight, Wrong}
 use Rattle.verdict.specs.declared.Judgement.{Judgement}

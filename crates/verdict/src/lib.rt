@@ -1,6 +1,4 @@
 // The verdict on a claim at a width: whether a recipe shows what the side of its source shows, at all operands and both carries.
-mod search;
-
 use binding::Claim;
 use bits::Ports;
 use search::Outcome;

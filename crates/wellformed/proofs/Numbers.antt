@@ -1,6 +1,6 @@
 -- "1 first; then word by word, 2 to 6 in each": what reading refuses is refused with a number of 1 to 6.
 use mathlib.Core.Path.{_≡_, ap}
-use mathlib.Core.Bool.{true, not}
+use mathlib.Core.Bool.{not}
 use mathlib.Core.List.{List, [], _∷_}
 use Prim.Native.Nat.{ℕ, _+_, _≤_}
 use native.Mathlib.Omega.{arith}
@@ -8,22 +8,25 @@ use lib.Dec.{eqb, ltb}
 use lib.ListN.{length}
 use borrow.Author.Tests.{eqb-false}
 use Rattle.words.specs.Field.{kindOf}
-use Rattle.words.specs.Kinds.{isRecipe}
+use Rattle.words.specs.Kinds.{GLUE, isRecipe}
 use Rattle.words.specs.Paper.{refusal}
 use Rattle.words.specs.declared.Refusal.{Refusal}
 use Rattle.words.proofs.Choices.{either}
 use Rattle.layout.specs.Layout.{readsUndriven, showsOther}
-use Rattle.sequence.specs.Limits.{mostJobWords}
+use Rattle.sequence.specs.Limits.{mostJobWords, mostMappingWords}
 use Rattle.sequence.specs.Sequence.{inSequence}
 use Rattle.grammar.specs.Reading.{fits, rises, wordFault, beginning, after, reading}
 use Rattle.reader.specs.Job.{jobEnded, jobOf}
+use Rattle.reader.specs.Mapping.{mappingEnded, mappingOf}
 use Rattle.sequence.specs.declared.File.{File}
-use Rattle.sequence.specs.declared.File.the-variants.{AsJob}
+use Rattle.sequence.specs.declared.File.the-variants.{AsJob, AsMapping}
 use Rattle.sequence.specs.declared.State.{State}
 use Rattle.grammar.specs.declared.step.Reading.{Reading}
 use Rattle.grammar.specs.declared.step.Reading.the-variants.{Passed, Stopped}
 use Rattle.reader.specs.declared.JobRead.{JobRead}
-use Rattle.reader.specs.declared.JobRead.the-variants.{Refused}
+use Rattle.reader.specs.declared.JobRead.the-variants as job
+use Rattle.reader.specs.declared.MappingRead.{MappingRead}
+use Rattle.reader.specs.declared.MappingRead.the-variants as mapping
 
 word-most : (file : File) (s : State) (w : ℕ) → wordFault file s w ≤ 6
 unfolding wordFault
@@ -54,25 +57,45 @@ module _ (r : Refusal) where
       (omega arith, omega arith))
       e
 
-  pub job-number : (ws : List ℕ) → jobOf ws ≡ Refused r → Listed
+  -- a file refused with a number of the list, whatever the type of the answer
+  numbered : {A : Type 0} (R : Refusal → A) → ((x y : Refusal) → R x ≡ R y → x ≡ y) → (n i : ℕ) → (1 ≤ n) × (n ≤ 6)
+      → R (refusal n i) ≡ R r → Listed
+  numbered R same n i h u =
+      let z = ap (λ (x : Refusal). x .number) (same (refusal n i) r u) in
+      (omega (arith, h), omega (arith, h))
+
+  same-job : (x y : Refusal) → job.Refused x ≡ job.Refused y → x ≡ y
+  same-job x y e = cc
+
+  same-mapping : (x y : Refusal) → mapping.Refused x ≡ mapping.Refused y → x ≡ y
+  same-mapping x y e = cc
+
+  pub job-number : (ws : List ℕ) → jobOf ws ≡ job.Refused r → Listed
   unfolding jobOf
   job-number ws =
-      let P : JobRead → Type 0 = λ x. x ≡ Refused r → Listed in
-      either P (ltb (length ws) 1) (λ _. numbered 1 0 (omega arith, omega arith))
-      (λ _. either P (ltb mostJobWords (length ws)) (λ _. numbered 1 0 (omega arith, omega arith))
+      let P : JobRead → Type 0 = λ x. x ≡ job.Refused r → Listed in
+      either P (ltb (length ws) 1) (λ _. numbered job.Refused same-job 1 0 (omega arith, omega arith))
+      (λ _. either P (ltb mostJobWords (length ws)) (λ _. numbered job.Refused same-job 1 0 (omega arith, omega arith))
       (λ _. at-end (reading AsJob beginning 0 ws) (stopped-number AsJob ws beginning 0)))
     where
-      numbered : (n i : ℕ) → (1 ≤ n) × (n ≤ 6) → Refused (refusal n i) ≡ Refused r → Listed
-      numbered n i h u =
-          let q : refusal n i ≡ r = cc in
-          let z = ap (λ (x : Refusal). x .number) q in
-          (omega (arith, h), omega (arith, h))
-
-      at-end : (x : Reading) → (x ≡ Stopped r → Listed) → jobEnded ws x ≡ Refused r → Listed
-      at-end (Stopped x) h = λ u. let q : x ≡ r = cc in h (ap Stopped q)
+      at-end : (x : Reading) → (x ≡ Stopped r → Listed) → jobEnded ws x ≡ job.Refused r → Listed
+      at-end (Stopped x) h = λ u. h (ap Stopped (same-job x r u))
       at-end (Passed s) h =
-          either (λ (x : JobRead). x ≡ Refused r → Listed) (ltb (s .sources) 1) (numbered-2 (length ws))
+          either (λ (x : JobRead). x ≡ job.Refused r → Listed) (ltb (s .sources) 1)
+          (λ _. numbered job.Refused same-job 2 (length ws) (omega arith, omega arith))
           (λ _ u. let z : _≡_ {A = ℕ} 0 1 = cc in absurd (omega arith))
-        where
-          numbered-2 : (i : ℕ) → ltb (s .sources) 1 ≡ true → Refused (refusal 2 i) ≡ Refused r → Listed
-          numbered-2 i _ u = numbered 2 i (omega arith, omega arith) u
+
+  pub mapping-number : (ws : List ℕ) → mappingOf ws ≡ mapping.Refused r → Listed
+  unfolding mappingOf
+  mapping-number ws =
+      let P : MappingRead → Type 0 = λ x. x ≡ mapping.Refused r → Listed in
+      either P (ltb (length ws) 1) (λ _. numbered mapping.Refused same-mapping 1 0 (omega arith, omega arith))
+      (λ _. either P (ltb mostMappingWords (length ws)) (λ _. numbered mapping.Refused same-mapping 1 0 (omega arith, omega arith))
+      (λ _. at-end (reading AsMapping beginning 0 ws) (stopped-number AsMapping ws beginning 0)))
+    where
+      at-end : (x : Reading) → (x ≡ Stopped r → Listed) → mappingEnded ws x ≡ mapping.Refused r → Listed
+      at-end (Stopped x) h = λ u. h (ap Stopped (same-mapping x r u))
+      at-end (Passed s) h =
+          either (λ (x : MappingRead). x ≡ mapping.Refused r → Listed) (not (eqb (s .stage) GLUE))
+          (λ _. numbered mapping.Refused same-mapping 2 (length ws) (omega arith, omega arith))
+          (λ _ u. let z : _≡_ {A = ℕ} 0 1 = cc in absurd (omega arith))

@@ -8,7 +8,7 @@ use Rattle.glue.proofs.Counts.{next-code, codes-fit, all-codes, codes-m
 use Rattle.glue.proofs.codes_count.Statement.{statement}
 use Rattle.glue.specs.Glue.{codesCount, codePrice, comparisonCodes}
 use Rattle.glue.specs.Asked.{InRange}
-use Rattle.glue.specs.Parts.{codes}
+use Rattle.glue.specs.Codes.{codes}
 use Rattle.glue.proofs.codes_count.Tie as tie
 
 abbrev Inv-loop : tie.InvT-loop

@@ -10,14 +10,20 @@ read-job-requires c κs = search needs
 enum-known-read : tie.Need-enum-known-read
 enum-known-read c = search needs
 
-bench-of-zeros-requires : tie.Need-bench-of-zeros-requires
-bench-of-zeros-requires c κs = search needs
+tables-of-zeros-requires : tie.Need-tables-of-zeros-requires
+tables-of-zeros-requires c κs = search needs
+
+empty-bench-requires : tie.Need-empty-bench-requires
+empty-bench-requires c κs = search needs
 
 enum-known-read-2 : tie.Need-enum-known-read-2
 enum-known-read-2 c = search needs
 
-opened-requires : tie.Need-opened-requires
-opened-requires c κs = search as-read
+tables-of-requires : tie.Need-tables-of-requires
+tables-of-requires c κs = search as-read
+
+empty-bench-requires-2 : tie.Need-empty-bench-requires-2
+empty-bench-requires-2 c κs = search needs
 
 returns : tie.Need-returns
 returns c = search open-refused
@@ -31,8 +37,10 @@ open-spec =
     (tie.spec
     read-job-requires
     enum-known-read
-    bench-of-zeros-requires
+    tables-of-zeros-requires
+    empty-bench-requires
     enum-known-read-2
-    opened-requires
+    tables-of-requires
+    empty-bench-requires-2
     returns
     returns-2)

@@ -1,0 +1,4 @@
+// Second rulings, for tests of the first: what a pricer and a checker of mappings answer, over the second accounts of files and glue.
+// They share no code, no table and no definition with the crates that are tested, so their contracts say only what safety needs, on
+// purpose.
+pub mod checking;
