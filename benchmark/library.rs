@@ -1,15 +1,15 @@
 //! The proved library, through its C interface.
 
 extern "C" {
-    fn deqhulov_judge(word: u32, width: u32, place: *mut u64, values: *mut u64, values_len: usize) -> u32;
+    fn deqhulov_judge(word: u32, width: u32, place: *mut u64, out: *mut u64, out_length: usize) -> u32;
     fn deqhulov_map(
         job: *const u32,
         job_len: usize,
         lent: *mut u32,
         lent_len: usize,
         place: *mut u64,
-        values: *mut u64,
-        values_len: usize,
+        out: *mut u64,
+        out_length: usize,
     ) -> u32;
 }
 

@@ -4,9 +4,9 @@ mod deqhulov {
     //! Safe functions over the C interface: a slice carries its length, so all that the interface asks of its caller holds.
     mod c {
         extern "C" {
-            pub fn deqhulov_map(job: *const u32, job_length: usize, lent: *mut u32, lent_length: usize, place: *mut u64, values: *mut u64, values_length: usize) -> u32;
-            pub fn deqhulov_check(job: *const u32, job_length: usize, mapping: *const u32, mapping_length: usize, place: *mut u64, values: *mut u64, values_length: usize) -> u32;
-            pub fn deqhulov_judge(word: u32, width: u32, place: *mut u64, values: *mut u64, values_length: usize) -> u32;
+            pub fn deqhulov_map(job: *const u32, job_length: usize, lent: *mut u32, lent_length: usize, place: *mut u64, out: *mut u64, out_length: usize) -> u32;
+            pub fn deqhulov_check(job: *const u32, job_length: usize, mapping: *const u32, mapping_length: usize, place: *mut u64, out: *mut u64, out_length: usize) -> u32;
+            pub fn deqhulov_judge(word: u32, width: u32, place: *mut u64, out: *mut u64, out_length: usize) -> u32;
         }
     }
 

@@ -3,9 +3,9 @@
 mod place;
 mod side;
 
-use output::Outputs;
 use binding::Recipe;
 use binding::Side;
+use output::Outputs;
 pub use place::same_bit;
 ghost use mathlib.Core.Path.{_≡_};
 ghost use Rattle.automaton.specs.Machine as M;

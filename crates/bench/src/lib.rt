@@ -137,7 +137,9 @@ impl Bench {
         ensures answer { λ r. ⌜ r ≡ C.finishOf self (now (lent .entry)) ⌝ }
         ensures written { λ r. ⌜ now (lent .exit) ≡ C.lentAfterFinish self (now (lent .entry)) ⌝ }
     {
-        if !faults::is_sound(self) {
+        let tables = self.tables;
+        let bound = self.bound;
+        if !soundness::is_sound(tables, bound) {
             return After {
                 bench: self,
                 answer: Answer::Refused(Refusal {
@@ -146,8 +148,6 @@ impl Bench {
                 }),
             };
         }
-        let tables = self.tables;
-        let bound = self.bound;
         let unbound = entries::unbound_on(tables, bound);
         if unbound != alu::NO_FUNCTION {
             return After {

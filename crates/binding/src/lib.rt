@@ -80,7 +80,7 @@ fn from_target(fields: recipe::Fields) -> Recipe
 }
 
 // The recipe that a word holds.
-pub fn recipe_of(word: u32) -> Recipe
+fn recipe_of(word: u32) -> Recipe
     ensures { λ r. ⌜ r ≡ B.recipeOf word ⌝ }
 {
     if recipe::from_scratch(word) {

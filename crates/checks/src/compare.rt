@@ -1,7 +1,4 @@
 // The checker and the pricer, each beside the reference's.
-use rulings::checking::check;
-use rulings::checking::price;
-use rulings::checking::wrong_is_borne_out;
 use checker::Checked;
 use pricer::Priced;
 use reference::answer::Answer;
@@ -13,6 +10,9 @@ use reference::answer::answered;
 use reference::answer::same_answer;
 use reference::answer::wrong;
 use reference::trial::Witness;
+use rulings::checking::check;
+use rulings::checking::price;
+use rulings::checking::wrong_is_borne_out;
 use testing::say;
 use testing::tally::Numbers;
 use testing::tally::no_numbers;

@@ -3,8 +3,8 @@
 use crate::compare::Tallies;
 use crate::compare::compared;
 use crate::compare::none;
-use rulings::checking::count_for;
 use reference::trial::next;
+use rulings::checking::count_for;
 use testing::words::first;
 use testing::words::glue_word;
 use testing::words::word_of;

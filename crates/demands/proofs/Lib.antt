@@ -3,6 +3,7 @@ pub mod Starred
 pub mod Parts
 pub mod Firsts
 pub mod ByIndex
+pub mod Numbered
 pub mod Papers
 pub mod Accepting
 pub mod Content

@@ -76,8 +76,7 @@ module _ (b : Bench) (h : Shaped b) (s : soundBench b ≡ true) where
   own-job : (r : JobRead) → jobOf words ≡ r → holds (t .nsources) (t .ntargets) r ≡ true → (job : Job) × Own job
   own-job (Refused r) e held = absurd (false≢true held)
   own-job (Accepted job) e held =
-      let p = and-split (eqb (job .sources) (t .nsources)) (eqb (job .targets) (t .ntargets)) held in
-      (
+      let p = and-split (eqb (job .sources) (t .nsources)) (eqb (job .targets) (t .ntargets)) held in (
         job,
         record {
           reads = e;

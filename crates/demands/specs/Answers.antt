@@ -18,6 +18,8 @@ use Rattle.reader.specs.declared.MappingRead.{MappingRead}
 use Rattle.reader.specs.declared.MappingRead.the-variants as mapping
 use Rattle.pricer.specs.declared.Priced.{Priced}
 use Rattle.pricer.specs.declared.Priced.the-variants as priced
+use Rattle.writer.specs.declared.Written.{Written}
+use Rattle.writer.specs.declared.Written.the-variants as written
 use Rattle.mapper.specs.declared.Answer as mapper
 use Rattle.mapper.specs.declared.Answer.the-variants as mapped
 use Rattle.checker.specs.declared.Checked.{Checked}
@@ -52,6 +54,10 @@ readNumbers = 1 ∷ 2 ∷ 3 ∷ 4 ∷ 5 ∷ 6 ∷ []
 
 abbrev pub priceNumbers : List ℕ
 priceNumbers = readNumbers ++ (7 ∷ 8 ∷ [])
+
+-- of what map and finish write at the end: "23. Lent words fewer than sources + 2"
+abbrev pub writeNumbers : List ℕ
+writeNumbers = 23 ∷ []
 
 -- "12. Unmappable"; "23. .. Last, in finish and map."
 abbrev pub mapNumbers : List ℕ
@@ -95,6 +101,10 @@ priceAccepts (priced.Count n) = true
 priceAccepts (priced.JobRefused r) = false
 priceAccepts (priced.MappingRefused r) = false
 priceAccepts (priced.Refused r) = false
+
+abbrev pub writeAccepts : Written → Bool
+writeAccepts (written.Words n) = true
+writeAccepts (written.Refused r) = false
 
 abbrev pub mapAccepts : mapper.Answer → Bool
 mapAccepts (mapped.Mapping n) = true

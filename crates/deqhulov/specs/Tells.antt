@@ -9,13 +9,13 @@ use Rattle.checker.specs.declared.Checked.{Checked}
 use Rattle.report.specs.Told.{Told}
 
 -- the checker's answer to a job and a mapping is told
-pub record TellsCheck (job mapping : List ℕ) (number place : ℕ) (lent after : List ℕ) : Type 0 where
+pub record TellsCheck (job mapping : List ℕ) (number place : ℕ) (out after : List ℕ) : Type 0 where
   pub answer : Checked
   pub checks : Checks job mapping answer
-  pub told : Told (checker.paperOf answer) number place lent after
+  pub told : Told (checker.paperOf answer) number place out after
 
 -- the judgement on a recipe word at a width is told
-pub record TellsJudgement (word width number place : ℕ) (lent after : List ℕ) : Type 0 where
+pub record TellsJudgement (word width number place : ℕ) (out after : List ℕ) : Type 0 where
   pub answer : Judgement
   pub judged : Judged word width answer
-  pub told : Told (judgementPaper answer) number place lent after
+  pub told : Told (judgementPaper answer) number place out after

@@ -5,8 +5,6 @@ use report::Report;
 use verdict::Judgement;
 use verdict::Verdict;
 ghost use mathlib.Core.Path.{_≡_};
-ghost use Prim.Native.Nat.{_≤_};
-ghost use lib.ListN.{length};
 ghost use Rattle.verdict.specs.Verdicts as J;
 ghost use Rattle.mapper.specs.Mapping as M;
 ghost use Rattle.checker.specs.Check as C;
@@ -14,7 +12,7 @@ ghost use Rattle.report.specs.Told as D;
 
 // The mapper's answer.
 pub fn of_mapping(answer: Answer) -> Report
-    ensures { λ r. ⌜ (D.paper r ≡ M.paperOf answer) × (r .count ≤ length (r .values)) ⌝ }
+    ensures { λ r. ⌜ r ≡ D.reportOf (M.paperOf answer) ⌝ }
 {
     match answer {
         Answer::Mapping(words) => report::with_value(report::NONE, words as u64),
@@ -24,7 +22,7 @@ pub fn of_mapping(answer: Answer) -> Report
 
 // The checker's answer.
 pub fn of_check(checked: Checked) -> Report
-    ensures { λ r. ⌜ (D.paper r ≡ C.paperOf checked) × (r .count ≤ length (r .values)) ⌝ }
+    ensures { λ r. ⌜ r ≡ D.reportOf (C.paperOf checked) ⌝ }
 {
     match checked {
         Checked::Accepted => report::refused(report::NONE),
@@ -36,7 +34,7 @@ pub fn of_check(checked: Checked) -> Report
 }
 
 fn of_verdict(verdict: Verdict) -> Report
-    ensures { λ r. ⌜ (D.paper r ≡ J.verdictPaper verdict) × (r .count ≤ length (r .values)) ⌝ }
+    ensures { λ r. ⌜ r ≡ D.reportOf (J.verdictPaper verdict) ⌝ }
 {
     match verdict {
         Verdict::Right => report::refused(report::NONE),
@@ -46,7 +44,7 @@ fn of_verdict(verdict: Verdict) -> Report
 
 // The judgement on a recipe.
 pub fn of_judgement(judgement: Judgement) -> Report
-    ensures { λ r. ⌜ (D.paper r ≡ J.judgementPaper judgement) × (r .count ≤ length (r .values)) ⌝ }
+    ensures { λ r. ⌜ r ≡ D.reportOf (J.judgementPaper judgement) ⌝ }
 {
     match judgement {
         Judgement::Decided(verdict) => of_verdict(verdict),

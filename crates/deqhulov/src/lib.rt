@@ -1,6 +1,6 @@
 // The interface for programs in other languages: a job is mapped, a mapping is checked, a recipe is judged. Words and lent words pass
 // as a pointer and a length. Each call returns the number of document 01's refusal, 0 for none, stores its place, and puts the
-// values that come with the answer into lent words.
+// values that come with the answer into the caller's `out`.
 mod answers;
 
 ghost use mathlib.Core.Path.{_≡_};
@@ -14,14 +14,14 @@ pub extern "C" fn deqhulov_map(
     job: &[u32],
     lent: &mut [u32],
     place: &mut u64,
-    values: &mut [u64],
+    out: &mut [u64],
 ) -> u32
-    ensures told { λ r. ⌜ R.Told (M.paperOf (M.answerOf (now (job .entry)) (now (lent .entry)))) r (now (place .exit)) (now (values .entry)) (now (values .exit)) ⌝ }
+    ensures told { λ r. ⌜ R.Told (M.paperOf (M.answerOf (now (job .entry)) (now (lent .entry)))) r (now (place .exit)) (now (out .entry)) (now (out .exit)) ⌝ }
     ensures written { λ r. ⌜ now (lent .exit) ≡ M.lentAfterMap (now (job .entry)) (now (lent .entry)) ⌝ }
 {
     let answer = mapper::map(job, lent);
     let told = answers::of_mapping(answer);
-    report::tell(told, place, values)
+    report::tell(told, place, out)
 }
 
 // Checks a mapping against its job. The value of a refusal 1 to 6 is 0 for the job and 1 for the mapping; those of 10 are the port,
@@ -31,21 +31,21 @@ pub extern "C" fn deqhulov_check(
     job: &[u32],
     mapping: &[u32],
     place: &mut u64,
-    values: &mut [u64],
+    out: &mut [u64],
 ) -> u32
-    ensures { λ r. ⌜ D.TellsCheck (now (job .entry)) (now (mapping .entry)) r (now (place .exit)) (now (values .entry)) (now (values .exit)) ⌝ }
+    ensures { λ r. ⌜ D.TellsCheck (now (job .entry)) (now (mapping .entry)) r (now (place .exit)) (now (out .entry)) (now (out .exit)) ⌝ }
 {
     let checked = checker::check(job, mapping);
     let told = answers::of_check(checked);
-    report::tell(told, place, values)
+    report::tell(told, place, out)
 }
 
 // Judges a recipe word at a width. The values of 10 are the port, the operands and the carry.
 #[no_mangle]
-pub extern "C" fn deqhulov_judge(word: u32, width: u32, place: &mut u64, values: &mut [u64]) -> u32
-    ensures { λ r. ⌜ D.TellsJudgement word width r (now (place .exit)) (now (values .entry)) (now (values .exit)) ⌝ }
+pub extern "C" fn deqhulov_judge(word: u32, width: u32, place: &mut u64, out: &mut [u64]) -> u32
+    ensures { λ r. ⌜ D.TellsJudgement word width r (now (place .exit)) (now (out .entry)) (now (out .exit)) ⌝ }
 {
     let judgement = verdict::judge(word, width);
     let told = answers::of_judgement(judgement);
-    report::tell(told, place, values)
+    report::tell(told, place, out)
 }

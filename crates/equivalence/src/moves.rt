@@ -2,9 +2,9 @@
 use automaton::Cell;
 use automaton::Ripple;
 use automaton::State;
-use output::Outputs;
 use binding::Recipe;
 use binding::Side;
+use output::Outputs;
 ghost use mathlib.Core.Path.{_≡_};
 ghost use Prim.Native.Nat.{_<_};
 ghost use Rattle.bits.specs.Bits.{num};

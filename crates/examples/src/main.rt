@@ -1,16 +1,13 @@
-// Maps the jobs of the examples and checks their mappings. Each file is a text of words in hexadecimal digits.
+// Maps the jobs of the examples and checks their mappings; each file is a text of words in hexadecimal digits. Then inputs for every other
+// kind of answer. All goes through the functions of the programs.
+mod cases;
+mod said;
+
 use hex::Hex;
 use hex::Step;
 use input::KEPT_WORDS;
-use libc::STDOUT_FILENO;
-use mapper::Answer;
-use sequence::MOST_MAPPING_WORDS;
 ghost use Prim.Native.Nat.{_+_, _≤_, _<_};
 ghost use lib.ListN.{length};
-
-fn say(text: &[u8]) {
-    io::write_all(STDOUT_FILENO, text);
-}
 
 // The word being read, the words so far, and whether a byte could not stand where it was.
 struct Taken {
@@ -84,27 +81,14 @@ fn read_words(path: &[u8], words: &mut [u32]) -> usize
     words_in(&bytes[..n], words)
 }
 
-fn print_answer(answer: Answer, lent: &[u32]) {
-    match answer {
-        Answer::Mapping(count) => {
-            if count <= lent.len() {
-                console::print_mapped(&lent[..count]);
-            }
-        }
-        Answer::Refused(refusal) => console::print_refused(refusal),
-    }
-}
-
 // Maps a job.
 fn map(path: &[u8]) {
     let mut job = [0u32; KEPT_WORDS];
     let kept = read_words(path, &mut job);
-    let mut lent = [0u32; MOST_MAPPING_WORDS];
-    let answer = mapper::map(&job[..kept], &mut lent);
-    say(b"map ");
-    say(path);
-    say(b"\n");
-    print_answer(answer, &lent);
+    console::print(b"map ");
+    console::print(path);
+    console::print(b"\n");
+    said::map(&job[..kept], 4 * kept);
 }
 
 // Checks a mapping against its job.
@@ -113,12 +97,12 @@ fn check(path: &[u8], mapping_path: &[u8]) {
     let kept = read_words(path, &mut job);
     let mut mapping = [0u32; KEPT_WORDS];
     let bound = read_words(mapping_path, &mut mapping);
-    say(b"check ");
-    say(path);
-    say(b" ");
-    say(mapping_path);
-    say(b"\n");
-    console::print_checked(checker::check(&job[..kept], &mapping[..bound]));
+    console::print(b"check ");
+    console::print(path);
+    console::print(b" ");
+    console::print(mapping_path);
+    console::print(b"\n");
+    said::check(&job[..kept], 4 * kept, &mapping[..bound], 4 * bound);
 }
 
 fn main() {
@@ -128,4 +112,8 @@ fn main() {
     map(b"published_lt.job");
     map(b"board.job");
     check(b"board.job", b"board.mapping");
+    console::print(b"map inputs\n");
+    cases::map_inputs();
+    console::print(b"check inputs\n");
+    cases::check_inputs();
 }

@@ -54,7 +54,7 @@ pub fn when(used: bool, amount: u32) -> u32
 }
 
 // The price of a comparison code.
-pub fn code_price(n: u32, prices: Prices, code: u32) -> u32
+fn code_price(n: u32, prices: Prices, code: u32) -> u32
     requires { ⌜ Q.Width n × (code < 16) ⌝ }
     ensures { λ r. ⌜ r ≡ G.codePrice n prices code ⌝ }
 {
@@ -64,22 +64,22 @@ pub fn code_price(n: u32, prices: Prices, code: u32) -> u32
     let signed = amount(n, prices.gate);
     let overflowed = amount(n + 1, prices.gate);
     let codes = [
-        0,
-        0,
-        a,
-        joined,
-        joined + a,
-        joined,
-        joined + a,
-        0,
-        a,
-        signed + a,
-        signed + a,
-        signed + 2 * a,
-        b,
-        b + a,
-        overflowed + a,
-        overflowed + 2 * a,
+        0, // 0 none
+        0, // 1 TO1
+        a, // 2 NOT TO1
+        joined, // 3 GOR
+        joined + a, // 4 GNOR
+        joined, // 5 GAND
+        joined + a, // 6 GNAND
+        0, // 7 S
+        a, // 8 NOT S
+        signed + a, // 9 S OR GNOR
+        signed + a, // 10 NOT S AND GOR
+        signed + 2 * a, // 11 NOT S AND GNOR
+        b, // 12 S XOR TOVF
+        b + a, // 13 NOT of 12
+        overflowed + a, // 14 (code 12) OR GNOR
+        overflowed + 2 * a, // 15 NOT of 14
     ];
     codes[code as usize]
 }

@@ -15,7 +15,7 @@ digitOf b =
     else if leb 97 b then if leb b 102 then b - 87 else 16 else 16 else 16
     else 16
 
--- "parted by spaces or line feeds"
+-- a space or a line feed
 unfoldable pub parts : ℕ → Bool
 parts b = if eqb b 32 then true else eqb b 10
 

@@ -1,12 +1,11 @@
 // Words read to the end of a file. Of a file longer than any job the first words are kept, one more than a job can have.
 ghost use mathlib.Core.Path.{_≡_};
-ghost use mathlib.Core.Bool.{false};
 ghost use Prim.Native.Nat.{_-_, _^_, _≤_, _<_};
-ghost use lib.Dec.{ltb};
 ghost use lib.ListN.{length, take};
 ghost use lib.Seq.{sets};
-ghost use Rattle.words.specs.Choice.{if_then_else_};
+ghost use Rattle.files.specs.Files as F;
 ghost use Rattle.input.specs.Read as R;
+ghost use Rattle.input.specs.Kept as K;
 
 // The most words that are kept, and their bytes.
 pub const KEPT_WORDS: usize = sequence::MOST_JOB_WORDS + 1;
@@ -32,7 +31,7 @@ struct Progress {
 }
 
 fn least(a: usize, b: usize) -> usize
-    ensures { λ r. ⌜ (r ≡ (if ltb a b then a else b)) × (r ≤ a) × (r ≤ b) ⌝ }
+    ensures { λ r. ⌜ (r ≡ R.least a b) × (r ≤ a) × (r ≤ b) ⌝ }
 {
     if a < b { a } else { b }
 }
@@ -52,13 +51,12 @@ fn keep(chunk: &[u8], kept: &mut [u8], at: usize)
     text::put(&chunk[..room], kept, at);
 }
 
-// Reads once.
-fn read_some(fd: i32, kept: &mut [u8], at: usize) -> Progress
-    requires { ⌜ at < 2 ^ 62 ⌝ }
-    ensures { λ r. ⌜ (r .ended ≡ false → at < r .bytes) ⌝ }
+// Takes what the system answered to a read: whether it failed, and else how many bytes of the chunk it brought.
+fn take_read(got: isize, chunk: &[u8], kept: &mut [u8], at: usize) -> Progress
+    requires { ⌜ (at < 2 ^ 62) × (length (now chunk) ≤ 4096) ⌝ }
+    ensures progress { λ r. ⌜ r ≡ R.progressOf got (length (now (chunk .entry))) at ⌝ }
+    ensures kept { λ r. ⌜ now (kept .exit) ≡ sets (now (kept .entry)) at (take (length (now (kept .entry)) - at) (R.brought got (now (chunk .entry)))) ⌝ }
 {
-    let mut chunk = [0u8; 4096];
-    let got = libc::read(fd, &mut chunk);
     if got < 0 {
         return Progress {
             bytes: at,
@@ -66,7 +64,7 @@ fn read_some(fd: i32, kept: &mut [u8], at: usize) -> Progress
             failed: true,
         };
     }
-    let n = io::count(got, &chunk);
+    let n = io::count(got, chunk);
     keep(&chunk[..n], kept, at);
     Progress {
         bytes: at + n,
@@ -75,8 +73,20 @@ fn read_some(fd: i32, kept: &mut [u8], at: usize) -> Progress
     }
 }
 
+// Reads once.
+fn read_some(fd: i32, kept: &mut [u8], at: usize) -> Progress
+    requires { ⌜ at < 2 ^ 62 ⌝ }
+    ensures { λ r. ⌜ K.Brings (now (kept .entry)) at (now (kept .exit)) r ⌝ }
+{
+    let mut chunk = [0u8; 4096];
+    let got = libc::read(fd, &mut chunk);
+    take_read(got, &chunk, kept, at)
+}
+
 // Reads to the end of the file, or until a read fails.
-fn read_bytes(fd: i32, kept: &mut [u8]) -> Progress {
+fn read_bytes(fd: i32, kept: &mut [u8]) -> Progress
+    ensures { λ r. ⌜ K.Keeps (now (kept .entry)) (now (kept .exit)) (r .bytes) ⌝ }
+{
     let mut now = Progress {
         bytes: 0,
         ended: false,
@@ -94,14 +104,12 @@ fn read_bytes(fd: i32, kept: &mut [u8]) -> Progress {
     now
 }
 
-// Reads words from a file descriptor.
-pub fn read_words(fd: i32, words: &mut [u32]) -> Input
-    requires { ⌜ R.keptWords ≤ length (now words) ⌝ }
-    ensures few { λ r. ⌜ r .kept ≤ R.keptWords ⌝ }
-    ensures read { λ r. ⌜ R.Read r ⌝ }
+// The words of the bytes that were kept, and what was read.
+fn words_read(bytes: &[u8], read: Progress, words: &mut [u32]) -> Input
+    requires { ⌜ (length (now bytes) ≡ R.keptBytes) × (R.keptWords ≤ length (now words)) ⌝ }
+    ensures read { λ r. ⌜ r ≡ R.inputOf (read .bytes) (read .failed) ⌝ }
+    ensures words { λ r. ⌜ now (words .exit) ≡ sets (now (words .entry)) 0 (F.wordsOf (take (R.least (read .bytes) R.keptBytes) (now (bytes .entry)))) ⌝ }
 {
-    let mut bytes = [0u8; KEPT_BYTES];
-    let read = read_bytes(fd, &mut bytes);
     let n = least(read.bytes, KEPT_BYTES);
     let kept = files::words_of(&bytes[..n], words);
     Input {
@@ -110,4 +118,15 @@ pub fn read_words(fd: i32, words: &mut [u32]) -> Input
         cut: read.bytes % 4 != 0,
         failed: read.failed,
     }
+}
+
+// Reads words from a file descriptor.
+pub fn read_words(fd: i32, words: &mut [u32]) -> Input
+    requires { ⌜ R.keptWords ≤ length (now words) ⌝ }
+    ensures few { λ r. ⌜ r .kept ≤ R.keptWords ⌝ }
+    ensures read { λ r. ⌜ R.Read (now (words .entry)) (now (words .exit)) r ⌝ }
+{
+    let mut bytes = [0u8; KEPT_BYTES];
+    let read = read_bytes(fd, &mut bytes);
+    words_read(&bytes, read, words)
 }

@@ -1,5 +1,4 @@
--- The lines that the programs print: document 01, "The mapping program .. prints, per binding, source name, target name or LV, word in
--- eight capital hexadecimal digits; then the count. A refusal prints only REFUSED, number and place in decimal".
+-- The lines of refusals: document 01, "A refusal prints only REFUSED, number and place in decimal".
 use Prim.Native.Nat.{ℕ}
 use mathlib.Core.Bool.{Bool, true, false}
 use mathlib.Core.List.{List, _++_}
@@ -7,19 +6,11 @@ use Rattle.words.specs.Paper.{refusal}
 use Rattle.words.specs.declared.Refusal.{Refusal}
 use Rattle.words.specs.declared.Witness.{Witness}
 use Rattle.bits.specs.Bits.{num}
-use Rattle.recipe.specs.Fields.{sourceOf, targetOf}
-use Rattle.text.specs.Text.{bytes, nameOf, hexadecimal, labelled}
+use Rattle.text.specs.Text.{bytes, labelled}
 
 -- no line has more bytes
 abbrev pub mostLineBytes : ℕ
 mostLineBytes = 160
-
-unfoldable pub bindingLine : ℕ → List ℕ
-bindingLine w =
-    nameOf (sourceOf w) ++ bytes " " ++ nameOf (targetOf w) ++ bytes " " ++ hexadecimal w ++ bytes "\n"
-
-unfoldable pub glueLine : ℕ → List ℕ
-glueLine count = labelled (bytes "GLUE ") count ++ bytes "\n"
 
 -- "REFUSED, number and place in decimal"
 unfoldable pub refusalText : Refusal → List ℕ

@@ -1,4 +1,4 @@
-// Lines that the programs print, put into lent bytes.
+// The lines of refusals, put into lent bytes.
 use words::Refusal;
 use words::Witness;
 ghost use Prim.Native.Nat.{_+_, _≤_};
@@ -8,28 +8,6 @@ ghost use Rattle.lines.specs.Lines as L;
 
 // The most bytes of a line.
 pub const MOST_LINE_BYTES: usize = 160;
-
-// A binding: its source, its target or LV, and its word.
-pub fn binding_line(word: u32, out: &mut [u8]) -> usize
-    requires { ⌜ L.mostLineBytes ≤ length (now out) ⌝ }
-    ensures text { λ r. ⌜ P.Puts (now (out .entry)) 0 (L.bindingLine word) (now (out .exit)) r ⌝ }
-{
-    let source = text::put_name(recipe::source_of(word), out, 0);
-    let gap = text::put(b" ", out, source);
-    let target = text::put_name(recipe::target_of(word), out, gap);
-    let space = text::put(b" ", out, target);
-    let digits = text::put_digits(word as u64, 16, 8, out, space);
-    text::put(b"\n", out, digits)
-}
-
-// The glue count.
-pub fn glue_line(count: u32, out: &mut [u8]) -> usize
-    requires { ⌜ L.mostLineBytes ≤ length (now out) ⌝ }
-    ensures text { λ r. ⌜ P.Puts (now (out .entry)) 0 (L.glueLine count) (now (out .exit)) r ⌝ }
-{
-    let end = text::put_labelled(b"GLUE ", count as u64, out, 0);
-    text::put(b"\n", out, end)
-}
 
 // A refusal's number and place.
 fn put_refusal(refusal: Refusal, out: &mut [u8]) -> usize
@@ -44,6 +22,7 @@ fn put_refusal(refusal: Refusal, out: &mut [u8]) -> usize
 // A refusal.
 pub fn refused_line(refusal: Refusal, out: &mut [u8]) -> usize
     requires { ⌜ L.mostLineBytes ≤ length (now out) ⌝ }
+    ensures short { λ r. ⌜ r ≤ L.mostLineBytes ⌝ }
     ensures text { λ r. ⌜ P.Puts (now (out .entry)) 0 (L.refusedLine refusal) (now (out .exit)) r ⌝ }
 {
     let end = put_refusal(refusal, out);
@@ -53,6 +32,7 @@ pub fn refused_line(refusal: Refusal, out: &mut [u8]) -> usize
 // A refusal of the job or of the mapping.
 pub fn refused_file_line(refusal: Refusal, mapping: bool, out: &mut [u8]) -> usize
     requires { ⌜ L.mostLineBytes ≤ length (now out) ⌝ }
+    ensures short { λ r. ⌜ r ≤ L.mostLineBytes ⌝ }
     ensures text { λ r. ⌜ P.Puts (now (out .entry)) 0 (L.refusedFileLine refusal mapping) (now (out .exit)) r ⌝ }
 {
     let end = put_refusal(refusal, out);
@@ -77,6 +57,7 @@ fn put_witness(witness: Witness, out: &mut [u8], at: usize) -> usize
 // A wrong recipe: where it differs from its source function.
 pub fn wrong_line(witness: Witness, out: &mut [u8]) -> usize
     requires { ⌜ L.mostLineBytes ≤ length (now out) ⌝ }
+    ensures short { λ r. ⌜ r ≤ L.mostLineBytes ⌝ }
     ensures text { λ r. ⌜ P.Puts (now (out .entry)) 0 (L.wrongLine witness) (now (out .exit)) r ⌝ }
 {
     let refusal = Refusal {

@@ -1,22 +1,16 @@
 // Reads a job's words on standard input and prints its mapping, or the refusal. With one argument it also writes the mapping's words
-// to the file of that name.
+// to the file of that name. What cannot be read or written is said on standard error.
 use libc::STDERR_FILENO;
 use libc::STDIN_FILENO;
-use mapper::Answer;
+use map_answers::MOST_FILE_BYTES;
+use map_answers::MOST_TEXT_BYTES;
 use sequence::MOST_MAPPING_WORDS;
-use words::Refusal;
+ghost use Prim.Native.Nat.{_≤_};
+ghost use lib.ListN.{length};
+ghost use Rattle.sequence.specs.Limits.{mostMappingWords};
 
-fn write_words(fd: i32, words: &[u32]) {
-    let mut i = 0;
-    while i < words.len() {
-        let bytes = files::bytes_of(words[i]);
-        io::write_all(fd, &bytes);
-        i += 1;
-    }
-}
-
-// Writes words to the file that the first argument names.
-fn save(words: &[u32]) {
+// Writes bytes to the file that the first argument names, or says why it cannot.
+fn save(bytes: &[u8]) {
     let mut path = io::buffer();
     let length = os::arg(1, &mut path);
     let fd = os::open_overwrite(&path[..length]);
@@ -24,29 +18,29 @@ fn save(words: &[u32]) {
         os::fail(&path[..length]);
         return;
     }
-    write_words(fd, words);
-    libc::close(fd);
-}
-
-// A mapping that was written: printed, and saved if a file is named.
-fn report(words: &[u32]) {
-    console::print_mapped(words);
-    if os::arg_count() == 2 {
-        save(words);
+    if !io::write_all(fd, bytes) {
+        os::fail(&path[..length]);
+        libc::close(fd);
+        return;
+    }
+    if libc::close(fd) < 0 {
+        os::fail(&path[..length]);
     }
 }
 
-fn map(job: &[u32]) {
-    let mut lent = [0u32; MOST_MAPPING_WORDS];
-    let answer = mapper::map(job, &mut lent);
-    match answer {
-        Answer::Mapping(count) => {
-            if count <= MOST_MAPPING_WORDS {
-                report(&lent[..count]);
-            }
-        }
-        Answer::Refused(refusal) => console::print_refused(refusal),
+// Saves a mapping that was written, if a file is named.
+fn save_mapping(words: &[u32])
+    requires { ⌜ length (now words) ≤ mostMappingWords ⌝ }
+{
+    if words.len() == 0 {
+        return;
     }
+    if os::arg_count() != 2 {
+        return;
+    }
+    let mut file = [0u8; MOST_FILE_BYTES];
+    let size = map_answers::put_file(words, &mut file);
+    save(&file[..size]);
 }
 
 fn main() {
@@ -56,17 +50,16 @@ fn main() {
     }
     let mut job = [0u32; input::KEPT_WORDS];
     let input = input::read_words(STDIN_FILENO, &mut job);
-    if input.failed {
+    let kept = input.kept;
+    let mut lent = [0u32; MOST_MAPPING_WORDS];
+    let mut out = [0u8; MOST_TEXT_BYTES];
+    let said = map_answers::map_input(&job[..kept], input, &mut lent, &mut out);
+    if said.failed {
         os::fail(b"standard input");
         return;
     }
-    if input.cut {
-        console::print_refused(Refusal {
-            number: 2,
-            place: input.whole,
-        });
-        return;
-    }
-    let kept = input.kept;
-    map(&job[..kept]);
+    let end = said.bytes;
+    console::print(&out[..end]);
+    let count = said.words;
+    save_mapping(&lent[..count]);
 }

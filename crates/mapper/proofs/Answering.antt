@@ -69,10 +69,9 @@ module _ (job : Job) (c : Chosen) (b : WritableChoice job c) where
   pub bound-length : job .sources ≡ length (take (job .sources) (c .words))
   bound-length = sym (length-take-le (job .sources) (c .words) sources-within)
 
-  pub writable : (count : ℕ) → (count ≡ setCount (job .width) (job .prices) (c .used)) × (count ≤ 612000)
-      → Writable (job .width) count (take (job .sources) (c .words))
-  writable count ec =
-      record { width-fits = b .width .most; glue-fits = omega (arith, ec .1); few-bound = omega (arith, bound-length, b .few) }
+  pub writable : (count : ℕ) → count ≤ 612000 → Writable (job .width) count (take (job .sources) (c .words))
+  writable count most =
+      record { width-fits = b .width .most; glue-fits = omega arith; few-bound = omega (arith, bound-length, b .few) }
 
   module _ (count : ℕ) (ec : (count ≡ setCount (job .width) (job .prices) (c .used)) × (count ≤ 612000)) where
     count-is : count ≡ glue (job .width) (job .prices) (take (job .sources) (c .words))

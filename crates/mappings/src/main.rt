@@ -1,8 +1,15 @@
 // The mapper tried on jobs whose mapping is known: the printed job, jobs that leave a function unmappable, equal glue, the largest
-// job, and lent words of several lengths. Each line says what was answered and what the lent words then hold.
+// job, and lent words of several lengths. Each line says what was answered and what the lent words then hold. Then the mapper beside
+// a second account of it on random jobs: a line for each shape of them says how many were compared, how many were mapped or refused,
+// and on how many the two differ; before it, where any do, stands the first.
+mod compare;
 mod jobs;
+mod random;
 mod show;
 
+use compare::KNOWN;
+use compare::TRIED;
+use compare::report_random;
 use jobs::EQUAL_GLUE;
 use jobs::EQUAL_GLUE_REVERSED;
 use jobs::NO_RULE;
@@ -33,4 +40,6 @@ fn main() {
     mapped(b"equal glue, other order", &EQUAL_GLUE_REVERSED, 3);
     let largest = jobs::largest();
     mapped(b"27 sources, 27 targets, 512 rules, width 64", &largest, 29);
+    report_random(b"widths 1 to 4, ", &TRIED);
+    report_random(b"widths 5 to 64, ", &KNOWN);
 }

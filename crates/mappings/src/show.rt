@@ -5,7 +5,7 @@ use testing::words::at;
 ghost use Prim.Native.Nat.{_≤_};
 
 // What a lent word holds before.
-const LENT: u32 = 0xEEEEEEEE;
+pub const LENT: u32 = 0xEEEEEEEE;
 
 const DIGITS: [u8; 16] = [
     b'0',

@@ -9,11 +9,11 @@ use Rattle.bits.specs.Wiring.{complement}
 use Rattle.bits.specs.declared.Ports.{Ports}
 use Rattle.output.specs.declared.Outputs.{Outputs}
 
--- "carry out (0 none, 1 TOCOUT, 2 NOT TOCOUT)", "overflow (0 none, 1 TOVF)"
+-- "carry out (0 none, 1 TOCOUT, 2 NOT TOCOUT; 3 invalid)", "overflow (0 none, 1 TOVF)"
 abbrev pub shownBit : ℕ → Bool → Bool
 shownBit code b = getD (false ∷ b ∷ not b ∷ []) code false
 
--- "main output (0 none, 1 TO0, 2 NOT TO0)"
+-- "main output (0 none, 1 TO0, 2 NOT TO0; 3 invalid)"
 abbrev pub shownWord : ℕ → ℕ → ℕ → ℕ
 shownWord n code a = getD (0 ∷ a ∷ complement n a ∷ []) code 0
 

@@ -3,22 +3,23 @@ use hex::Hex;
 use hex::Step;
 use libc::STDERR_FILENO;
 use libc::STDIN_FILENO;
-use libc::STDOUT_FILENO;
 ghost use mathlib.Core.Path.{_≡_};
 ghost use mathlib.Core.Bool.{false};
 ghost use Prim.Native.Nat.{_+_, _≤_, _<_, _^_};
 ghost use lib.ListN.{length};
 
-// The word being read, how many bytes came before, and whether the text has ended or a byte could not stand where it was.
+// The word being read, how many bytes came before, and whether the text has ended, a byte could not stand where it was, or a word could
+// not be written.
 struct Progress {
     hex: Hex,
     bytes: usize,
     ended: bool,
 }
 
-fn write_word(word: u32) {
+// Writes a word's bytes, and answers whether it could.
+fn write_word(word: u32) -> bool {
     let bytes = files::bytes_of(word);
-    io::write_all(STDOUT_FILENO, &bytes);
+    console::print(&bytes)
 }
 
 // Says at which byte the text is wrong.
@@ -44,11 +45,11 @@ fn next(hex: Hex, byte: u8, at: usize) -> Progress
             ended: false,
         },
         Step::Word(word) => {
-            write_word(word);
+            let written = write_word(word);
             Progress {
                 hex: hex::no_digits(),
                 bytes: at + 1,
-                ended: false,
+                ended: !written,
             }
         }
         Step::Bad => {
@@ -89,7 +90,9 @@ fn finish(hex: Hex, at: usize) {
     let step = hex::ended(hex);
     match step {
         Step::More(_) => {}
-        Step::Word(word) => write_word(word),
+        Step::Word(word) => {
+            write_word(word);
+        }
         Step::Bad => complain(at),
     }
 }

@@ -1,14 +1,15 @@
--- Values put into lent words, if they are enough.
-use mathlib.Core.Path.{_≡_, refl, subst}
+-- Values put into a caller's words, if they are enough; and what a report holds.
+use mathlib.Core.Path.{_≡_, refl, ap, subst, _∙_}
 use mathlib.Core.List.{List}
-use Prim.Native.Nat.{ℕ, suc, _+_, _≤_, _<_}
+use Prim.Native.Nat.{ℕ, suc, _+_, _-_, _≤_, _<_}
 use native.Mathlib.Omega.{arith}
-use lib.ListN.{length, drop, getD, set, drop-of-length-le}
-use lib.Seq.{sets}
+use lib.ListN.{length, drop, getD, set, replicate, drop-of-length-le, length-append}
+use lib.Seq.{sets, take-append-seam}
 use borrow.Author.Tests.{lt-ltb, le-ltb}
 use Rattle.words.proofs.Lists.{drop-next}
 use Rattle.words.specs.Paper.{Paper}
-use Rattle.report.specs.Told.{Told}
+use Rattle.report.specs.Told.{mostValues, reportOf, paper, Told}
+use Rattle.report.specs.declared.Report.{Report}
 use Rattle.writer.specs.Write.{lentAfter}
 
 module _ (values lent : List ℕ) where
@@ -27,5 +28,20 @@ module _ (values lent : List ℕ) where
   all-put now i h l e =
       rw (le-ltb (length lent) (length values) l) (rw (drop-of-length-le values h) at e)
 
-pub told-of : (p q : Paper) (number place : ℕ) (lent after : List ℕ) → p ≡ q → Told p number place lent after → Told q number place lent after
-told-of p q number place lent after e t = subst (λ (x : Paper). Told x number place lent after) e t
+-- ---- a report holds its answer
+
+pub report-fits : (p : Paper) (r : Report) → r ≡ reportOf p → r .count ≤ length (r .values)
+report-fits p r e = rw e (omega (arith, length-append (p .values) (replicate (mostValues - length (p .values)) 0)))
+
+report-paper : (p : Paper) → paper (reportOf p) ≡ p
+report-paper p = λ i.
+    record {
+      number = p .number;
+      place = p .place;
+      values = take-append-seam (p .values) (replicate (mostValues - length (p .values)) 0) i;
+    }
+
+pub told-of : (p q : Paper) (r : Report) (number place : ℕ) (out after : List ℕ) → r ≡ reportOf p → p ≡ q
+    → Told (paper r) number place out after → Told q number place out after
+told-of p q r number place out after er e t =
+    subst (λ (x : Paper). Told x number place out after) (ap paper er ∙ report-paper p ∙ e) t

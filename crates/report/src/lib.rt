@@ -19,7 +19,7 @@ pub const NONE: Refusal = Refusal {
     place: 0,
 };
 
-// A refusal, or NONE, and the values that come with the answer.
+// A refusal, or NONE, and the values that come with the answer, with zeros past them.
 pub struct Report {
     pub refusal: Refusal,
     pub count: usize,
@@ -34,7 +34,7 @@ fn number(b: bool) -> u64
 
 // A refusal and one value.
 pub fn with_value(refusal: Refusal, value: u64) -> Report
-    ensures { λ r. ⌜ (D.paper r ≡ refusedWith (refusal .number) (refusal .place) (value ∷ [])) × (r .count ≤ length (r .values)) ⌝ }
+    ensures { λ r. ⌜ r ≡ D.reportOf (refusedWith (refusal .number) (refusal .place) (value ∷ [])) ⌝ }
 {
     Report {
         refusal,
@@ -45,7 +45,7 @@ pub fn with_value(refusal: Refusal, value: u64) -> Report
 
 // A refusal without values.
 pub fn refused(refusal: Refusal) -> Report
-    ensures { λ r. ⌜ (D.paper r ≡ told refusal) × (r .count ≤ length (r .values)) ⌝ }
+    ensures { λ r. ⌜ r ≡ D.reportOf (told refusal) ⌝ }
 {
     Report {
         refusal,
@@ -56,7 +56,7 @@ pub fn refused(refusal: Refusal) -> Report
 
 // Refusal 10: the port, the operands and the carry.
 pub fn wrong(witness: Witness) -> Report
-    ensures { λ r. ⌜ (D.paper r ≡ refusedWith 10 (witness .function) (witness .port ∷ witness .left ∷ witness .right ∷ num (witness .carry) ∷ [])) × (r .count ≤ length (r .values)) ⌝ }
+    ensures { λ r. ⌜ r ≡ D.reportOf (refusedWith 10 (witness .function) (witness .port ∷ witness .left ∷ witness .right ∷ num (witness .carry) ∷ [])) ⌝ }
 {
     Report {
         refusal: Refusal {
@@ -73,29 +73,29 @@ pub fn wrong(witness: Witness) -> Report
     }
 }
 
-// Puts values into lent words, if they are enough.
-fn put_values(values: &[u64], lent: &mut [u64])
-    ensures { λ r. ⌜ now (lent .exit) ≡ W.lentAfter (now (values .entry)) (now (lent .entry)) ⌝ }
+// Puts values into the caller's words, if they are enough.
+fn put_values(values: &[u64], out: &mut [u64])
+    ensures { λ r. ⌜ now (out .exit) ≡ W.lentAfter (now (values .entry)) (now (out .entry)) ⌝ }
 {
-    if lent.len() < values.len() {
+    if out.len() < values.len() {
         return;
     }
     let mut i = 0;
     while i < values.len() {
-        lent[i] = values[i];
+        out[i] = values[i];
         i += 1;
     }
 }
 
 // Tells a report: the number is returned.
-pub fn tell(report: Report, place: &mut u64, lent: &mut [u64]) -> u32
+pub fn tell(report: Report, place: &mut u64, out: &mut [u64]) -> u32
     requires { ⌜ report .count ≤ length (report .values) ⌝ }
-    ensures { λ r. ⌜ D.Told (D.paper report) r (now (place .exit)) (now (lent .entry)) (now (lent .exit)) ⌝ }
+    ensures { λ r. ⌜ D.Told (D.paper report) r (now (place .exit)) (now (out .entry)) (now (out .exit)) ⌝ }
 {
     let refusal = report.refusal;
     *place = refusal.place as u64;
     let values = report.values;
     let count = report.count;
-    put_values(&values[..count], lent);
+    put_values(&values[..count], out);
     refusal.number
 }

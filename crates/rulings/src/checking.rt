@@ -20,7 +20,7 @@ use testing::words::content;
 use testing::words::kind;
 
 // The index of the word of a kind for a function, or 0.
-fn index_of(words: &[u32], of: u32, function_sought: u32) -> usize {
+pub fn index_of(words: &[u32], of: u32, function_sought: u32) -> usize {
     let mut i = 0;
     while i < words.len() {
         let word = at(words, i);

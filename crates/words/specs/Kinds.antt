@@ -26,6 +26,6 @@ BINDING = 6
 abbrev pub GLUE : ℕ
 GLUE = 7
 
--- "5, 6: rule, binding: a recipe"
+-- 5 and 6: "rule, binding: a recipe"
 unfoldable pub isRecipe : ℕ → Bool
 isRecipe kind = if eqb kind RULE then true else eqb kind BINDING

@@ -11,7 +11,7 @@ use Rattle.words.specs.Paper.{Paper, refusal, accepted, told}
 use Rattle.writer.specs.declared.Written.{Written}
 use Rattle.writer.specs.declared.Written.the-variants.{Words, Refused}
 
--- a rule's recipe as a binding: "5, 6: rule, binding: a recipe"
+-- a rule's recipe as a binding: "rule, binding: a recipe"
 abbrev pub bindingWord : ℕ → ℕ
 bindingWord w = wordOf BINDING (contentOf w)
 

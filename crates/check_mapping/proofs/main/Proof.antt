@@ -22,38 +22,41 @@ slice-aggregate-read-file c = search needs
 read-file-requires : tie.Need-read-file-requires
 read-file-requires c κs = search needs
 
-returns-2 : tie.Need-returns-2
-returns-2 c = search needs
-
 slice-aggregate-read-file-2 : tie.Need-slice-aggregate-read-file-2
 slice-aggregate-read-file-2 c = search needs
 
 read-file-requires-2 : tie.Need-read-file-requires-2
 read-file-requires-2 c κs = search needs
 
-returns-3 : tie.Need-returns-3
-returns-3 c = search needs
-
 array-share-prefix-job : tie.Need-array-share-prefix-job
 array-share-prefix-job c = search needs
 
-slice-aggregate-check-files : tie.Need-slice-aggregate-check-files
-slice-aggregate-check-files c = search array-start
+slice-aggregate-check-inputs : tie.Need-slice-aggregate-check-inputs
+slice-aggregate-check-inputs c = search array-start
 
 array-share-prefix-mapping : tie.Need-array-share-prefix-mapping
 array-share-prefix-mapping c = search needs
 
-slice-aggregate-check-files-2 : tie.Need-slice-aggregate-check-files-2
-slice-aggregate-check-files-2 c = search array-start
+slice-aggregate-check-inputs-2 : tie.Need-slice-aggregate-check-inputs-2
+slice-aggregate-check-inputs-2 c = search array-start
 
-check-files-requires : tie.Need-check-files-requires
-check-files-requires c κs = search needs
+slice-aggregate-check-inputs-3 : tie.Need-slice-aggregate-check-inputs-3
+slice-aggregate-check-inputs-3 c = search needs
 
-print-checked-requires : tie.Need-print-checked-requires
-print-checked-requires c κs = search needs
+check-inputs-requires : tie.Need-check-inputs-requires
+check-inputs-requires c κs = search needs
 
-returns-4 : tie.Need-returns-4
-returns-4 c = search needs
+array-share-prefix-out : tie.Need-array-share-prefix-out
+array-share-prefix-out c = search needs
+
+slice-aggregate-print : tie.Need-slice-aggregate-print
+slice-aggregate-print c = search array-start
+
+print-requires : tie.Need-print-requires
+print-requires c κs = search needs
+
+returns-2 : tie.Need-returns-2
+returns-2 c = search needs
 
 pub main-spec : {M : Type 1} → statement M
 main-spec =
@@ -65,14 +68,15 @@ main-spec =
     returns
     slice-aggregate-read-file
     read-file-requires
-    returns-2
     slice-aggregate-read-file-2
     read-file-requires-2
-    returns-3
     array-share-prefix-job
-    slice-aggregate-check-files
+    slice-aggregate-check-inputs
     array-share-prefix-mapping
-    slice-aggregate-check-files-2
-    check-files-requires
-    print-checked-requires
-    returns-4)
+    slice-aggregate-check-inputs-2
+    slice-aggregate-check-inputs-3
+    check-inputs-requires
+    array-share-prefix-out
+    slice-aggregate-print
+    print-requires
+    returns-2)

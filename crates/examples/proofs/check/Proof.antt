@@ -16,29 +16,29 @@ slice-aggregate-read-words-2 c = search needs
 read-words-requires-2 : tie.Need-read-words-requires-2
 read-words-requires-2 c κs = search needs
 
-slice-aggregate-say : tie.Need-slice-aggregate-say
-slice-aggregate-say c = search needs
+slice-aggregate-print : tie.Need-slice-aggregate-print
+slice-aggregate-print c = search needs
 
-say-requires : tie.Need-say-requires
-say-requires c κs = search needs
+print-requires : tie.Need-print-requires
+print-requires c κs = search needs
 
-say-requires-2 : tie.Need-say-requires-2
-say-requires-2 c κs = search needs
+print-requires-2 : tie.Need-print-requires-2
+print-requires-2 c κs = search needs
 
-slice-aggregate-say-2 : tie.Need-slice-aggregate-say-2
-slice-aggregate-say-2 c = search needs
+slice-aggregate-print-2 : tie.Need-slice-aggregate-print-2
+slice-aggregate-print-2 c = search needs
 
-say-requires-3 : tie.Need-say-requires-3
-say-requires-3 c κs = search needs
+print-requires-3 : tie.Need-print-requires-3
+print-requires-3 c κs = search needs
 
-say-requires-4 : tie.Need-say-requires-4
-say-requires-4 c κs = search needs
+print-requires-4 : tie.Need-print-requires-4
+print-requires-4 c κs = search needs
 
-slice-aggregate-say-3 : tie.Need-slice-aggregate-say-3
-slice-aggregate-say-3 c = search needs
+slice-aggregate-print-3 : tie.Need-slice-aggregate-print-3
+slice-aggregate-print-3 c = search needs
 
-say-requires-5 : tie.Need-say-requires-5
-say-requires-5 c κs = search needs
+print-requires-5 : tie.Need-print-requires-5
+print-requires-5 c κs = search needs
 
 array-share-prefix-job : tie.Need-array-share-prefix-job
 array-share-prefix-job c = search needs
@@ -46,17 +46,20 @@ array-share-prefix-job c = search needs
 slice-aggregate-check : tie.Need-slice-aggregate-check
 slice-aggregate-check c = search array-start
 
+mul-check : tie.Need-mul-check
+mul-check c = search needs
+
 array-share-prefix-mapping : tie.Need-array-share-prefix-mapping
 array-share-prefix-mapping c = search needs
 
 slice-aggregate-check-2 : tie.Need-slice-aggregate-check-2
 slice-aggregate-check-2 c = search array-start
 
+mul-check-2 : tie.Need-mul-check-2
+mul-check-2 c = search needs
+
 check-requires : tie.Need-check-requires
 check-requires c κs = search needs
-
-print-checked-requires : tie.Need-print-checked-requires
-print-checked-requires c κs = search needs
 
 returns : tie.Need-returns
 returns c = search needs
@@ -69,18 +72,19 @@ check-spec =
     read-words-requires
     slice-aggregate-read-words-2
     read-words-requires-2
-    slice-aggregate-say
-    say-requires
-    say-requires-2
-    slice-aggregate-say-2
-    say-requires-3
-    say-requires-4
-    slice-aggregate-say-3
-    say-requires-5
+    slice-aggregate-print
+    print-requires
+    print-requires-2
+    slice-aggregate-print-2
+    print-requires-3
+    print-requires-4
+    slice-aggregate-print-3
+    print-requires-5
     array-share-prefix-job
     slice-aggregate-check
+    mul-check
     array-share-prefix-mapping
     slice-aggregate-check-2
+    mul-check-2
     check-requires
-    print-checked-requires
     returns)

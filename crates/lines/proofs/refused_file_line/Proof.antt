@@ -19,7 +19,7 @@ same-length c = search needs
 
 returns : tie.Need-returns
 unfolding refusedFileLine
-returns c = rw (c .before .before .before .before .before .if1 .taken) (search after-put)
+returns c = (search needs, rw (c .before .before .before .before .before .if1 .taken) (search after-put))
 
 slice-aggregate-put-2 : tie.Need-slice-aggregate-put-2
 slice-aggregate-put-2 c = search needs
@@ -32,7 +32,7 @@ same-length-2 c = search needs
 
 returns-2 : tie.Need-returns-2
 unfolding refusedFileLine
-returns-2 c = rw (c .before .before .before .before .before .if1 .left) (search after-put)
+returns-2 c = (search needs, rw (c .before .before .before .before .before .if1 .left) (search after-put))
 
 pub refused-file-line-spec : {M : Type 1} → statement M
 refused-file-line-spec =

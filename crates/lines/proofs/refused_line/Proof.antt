@@ -19,7 +19,7 @@ same-length c = search needs
 
 returns : tie.Need-returns
 unfolding refusedLine
-returns c = search after-put
+returns c = (search needs, search after-put)
 
 pub refused-line-spec : {M : Type 1} → statement M
 refused-line-spec =

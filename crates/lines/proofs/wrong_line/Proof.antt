@@ -25,7 +25,7 @@ same-length c = search needs
 
 returns : tie.Need-returns
 unfolding wrongLine
-returns c = search after-put
+returns c = (search needs, search after-put)
 
 pub wrong-line-spec : {M : Type 1} → statement M
 wrong-line-spec =

@@ -10,8 +10,8 @@ taken-requires c κs = search needs
 enum-known-step : tie.Need-enum-known-step
 enum-known-step c = search needs
 
-add-t8 : tie.Need-add-t8
-add-t8 c = search needs
+add-t9 : tie.Need-add-t9
+add-t9 c = search needs
 
 enum-known-step-2 : tie.Need-enum-known-step-2
 enum-known-step-2 c = search needs
@@ -46,7 +46,7 @@ next-spec =
     (tie.spec
     taken-requires
     enum-known-step
-    add-t8
+    add-t9
     enum-known-step-2
     write-word-requires
     no-digits-requires

@@ -10,10 +10,10 @@ use Rattle.report.proofs.put_values.Statement.{statement}
 use Rattle.report.proofs.put_values.Tie as tie
 
 abbrev Inv-loop : tie.InvT-loop
-Inv-loop values lent₀ i₀ lent i = (i ≤ length values) × (length lent ≡ length lent₀) × (length values ≤ length lent₀) × (sets lent i (drop i values) ≡ sets lent₀ 0 values)
+Inv-loop values out₀ i₀ out i = (i ≤ length values) × (length out ≡ length out₀) × (length values ≤ length out₀) × (sets out i (drop i values) ≡ sets out₀ 0 values)
 
 abbrev μ-loop : tie.MeasureT-loop
-μ-loop values lent₀ i₀ lent i = length values - i
+μ-loop values out₀ i₀ out i = length values - i
 
 returns : tie.Need-returns Inv-loop μ-loop
 returns c = search too-few
@@ -21,17 +21,17 @@ returns c = search too-few
 loop-holds : tie.Need-loop-holds Inv-loop μ-loop
 loop-holds c = (search needs, search needs, search needs, refl)
 
-mul-lent : tie.Need-mul-lent Inv-loop μ-loop
-mul-lent c = search needs
+mul-out : tie.Need-mul-out Inv-loop μ-loop
+mul-out c = search needs
 
-shared-slice-read-lent : tie.Need-shared-slice-read-lent Inv-loop μ-loop
-shared-slice-read-lent c = search needs
+shared-slice-read-out : tie.Need-shared-slice-read-out Inv-loop μ-loop
+shared-slice-read-out c = search needs
 
-mul-lent-2 : tie.Need-mul-lent-2 Inv-loop μ-loop
-mul-lent-2 c = search needs
+mul-out-2 : tie.Need-mul-out-2 Inv-loop μ-loop
+mul-out-2 c = search needs
 
-slice-write-lent : tie.Need-slice-write-lent Inv-loop μ-loop
-slice-write-lent c = search needs
+slice-write-out : tie.Need-slice-write-out Inv-loop μ-loop
+slice-write-out c = search needs
 
 add-i : tie.Need-add-i Inv-loop μ-loop
 add-i c = search needs
@@ -56,10 +56,10 @@ put-values-spec =
     μ-loop
     returns
     loop-holds
-    mul-lent
-    shared-slice-read-lent
-    mul-lent-2
-    slice-write-lent
+    mul-out
+    shared-slice-read-out
+    mul-out-2
+    slice-write-out
     add-i
     loop-less
     loop-again

@@ -14,7 +14,7 @@ number-requires : tie.Need-number-requires
 number-requires c κs = search needs
 
 returns : tie.Need-returns
-returns c = (rw (c .number .ensures) refl, search needs)
+returns c = rw (c .number .ensures) refl
 
 pub wrong-spec : {M : Type 1} → statement M
 wrong-spec = tie.close (tie.spec cast-t2 cast-t4 number-requires returns)

@@ -1,0 +1,4 @@
+pub mod Mapped
+pub mod Filed
+pub mod BeforeAll
+pub mod OfBytes
