@@ -1,46 +1,6 @@
-//! Maps document 01's job from Rust, and checks the mapping.
+//! Maps document 01's job from Rust, prices and checks the mapping, and tries the other calls.
 
-mod deqhulov {
-    //! Safe functions over the C interface: a slice carries its length, so all that the interface asks of its caller holds.
-    mod c {
-        extern "C" {
-            pub fn deqhulov_map(job: *const u32, job_length: usize, lent: *mut u32, lent_length: usize, place: *mut u64, out: *mut u64, out_length: usize) -> u32;
-            pub fn deqhulov_check(job: *const u32, job_length: usize, mapping: *const u32, mapping_length: usize, place: *mut u64, out: *mut u64, out_length: usize) -> u32;
-            pub fn deqhulov_judge(word: u32, width: u32, place: *mut u64, out: *mut u64, out_length: usize) -> u32;
-        }
-    }
-
-    /// A refusal: document 01's number, its place, and the values that come with it.
-    #[derive(Debug, PartialEq)]
-    pub struct Refusal {
-        pub number: u32,
-        pub place: u64,
-        pub values: [u64; 4],
-    }
-
-    fn told(number: u32, place: u64, values: [u64; 4]) -> Result<u64, Refusal> {
-        if number == 0 { Ok(values[0]) } else { Err(Refusal { number, place, values }) }
-    }
-
-    /// Maps a job into lent words, and answers how many were written.
-    pub fn map(job: &[u32], lent: &mut [u32]) -> Result<u64, Refusal> {
-        let (mut place, mut values) = (0, [0; 4]);
-        let number = unsafe { c::deqhulov_map(job.as_ptr(), job.len(), lent.as_mut_ptr(), lent.len(), &mut place, values.as_mut_ptr(), 4) };
-        told(number, place, values)
-    }
-
-    pub fn check(job: &[u32], mapping: &[u32]) -> Result<(), Refusal> {
-        let (mut place, mut values) = (0, [0; 4]);
-        let number = unsafe { c::deqhulov_check(job.as_ptr(), job.len(), mapping.as_ptr(), mapping.len(), &mut place, values.as_mut_ptr(), 4) };
-        told(number, place, values).map(|_| ())
-    }
-
-    pub fn judge(word: u32, width: u32) -> Result<(), Refusal> {
-        let (mut place, mut values) = (0, [0; 4]);
-        let number = unsafe { c::deqhulov_judge(word, width, &mut place, values.as_mut_ptr(), 4) };
-        told(number, place, values).map(|_| ())
-    }
-}
+mod deqhulov;
 
 const JOB: [u32; 14] = [
     0x10000010, 0x20010103, 0x30000001, 0x30000003, 0x30000008, 0x30000019, 0x40000001, 0x40000002, 0x50854960, 0x518A2960,
@@ -48,10 +8,11 @@ const JOB: [u32; 14] = [
 ];
 
 fn main() {
-    let mut mapping = [0; 29];
-    let words = deqhulov::map(&JOB, &mut mapping).expect("the printed job is mapped") as usize;
+    let mut mapping = [0; deqhulov::MAPPING_WORDS];
+    let words = deqhulov::map(&JOB, &mut mapping).expect("the printed job is mapped");
     let text: Vec<String> = mapping[..words].iter().map(|word| format!("{word:08X}")).collect();
     println!("{}", text.join(" "));
+    println!("glue {}", deqhulov::price(&JOB, &mapping[..words]).expect("the mapping is the job's"));
     assert_eq!(deqhulov::check(&JOB, &mapping[..words]), Ok(()));
     println!("accepted");
 
@@ -62,8 +23,16 @@ fn main() {
     // a job of no words, and one of more than any job has
     assert_eq!(deqhulov::map(&[], &mut mapping).unwrap_err().number, 1);
     assert_eq!(deqhulov::map(&[0x10000010; 100_000], &mut mapping).unwrap_err().number, 1);
+    // a mapping without words is the mapping's refusal, not the job's
+    assert_eq!(deqhulov::price(&JOB, &[]).unwrap_err(), deqhulov::Refusal { number: 1, place: 0, values: [1, 0, 0, 0] });
 
     let refusal = deqhulov::judge(0x5C894407, 16).unwrap_err();
+    assert_eq!((refusal.number, refusal.place, refusal.values[0]), (deqhulov::WRONG_RECIPE, 25, deqhulov::O1));
     println!("5C894407 at width 16: {} at function {}, port {}", refusal.number, refusal.place, refusal.values[0]);
-    assert_eq!((refusal.number, refusal.place, refusal.values[0]), (10, 25, 3));
+
+    // ADD at width 8: 127 + 1 overflows
+    let ports = deqhulov::evaluate(1, 8, 127, 1, 0).expect("in range");
+    assert_eq!(ports, deqhulov::Ports { o0: 128, ocout: false, ovf: true, o1: false });
+    println!("ADD of 127 and 1 at width 8: {}, overflow {}", ports.o0, ports.ovf);
+    assert_eq!(deqhulov::evaluate(1, 8, 256, 1, 0).unwrap_err().place, 2);
 }

@@ -1,31 +1,29 @@
 -- The ports of a function of each kind, and the evaluator's answers.
 use mathlib.Core.Path.{_≡_, refl, sym, ap, _∙_}
-use Prim.Native.Nat.{ℕ, suc, _-_, _^_, _≤_, _<_}
+use Prim.Native.Nat.{ℕ, _-_, _^_, _≤_, _<_}
 use native.Mathlib.Omega.{arith}
 use native.Mathlib.Nat.{mod-lt}
 use mathlib.Core.Bool.{Bool, true, false, not, false≢true}
-use mathlib.Core.List.{List}
 use lib.Dec.{eqb, ltb, leb}
 use lib.ListN.{getD, List·getD-eq-default}
 use lib.Pow.{pow-pos}
-use borrow.Author.Tests.{lt-ltb, le-ltb, le-leb, lt-leb, leb-true, leb-false, ltb-true, ltb-false, not-true, not-false}
+use borrow.Author.Tests.{lt-ltb, le-ltb, le-leb, lt-leb, leb-true, leb-false, ltb-false, not-true, not-false}
 use Rattle.words.specs.Choice.{if_then_else_}
 use Rattle.words.specs.Paper.{refusal}
 use Rattle.words.proofs.Choices.{either}
 use Rattle.words.proofs.Lists.{getD-within}
-use Rattle.bits.specs.Bits.{num, bit}
+use Rattle.bits.specs.Bits.{bit}
 use Rattle.bits.specs.Wiring.{wired, carried}
 use Rattle.alu.specs.Function.{functions, functionOf, ports}
 use Rattle.bits.specs.Sum.{sum}
 use Rattle.bits.specs.Vector.{minterm, logicWord}
 use Rattle.bits.specs.Order.{compared}
 use Rattle.alu.specs.Range.{isFunction, isWidth}
-use Rattle.alu.specs.Evaluate.{firstOutOfRange, inRange, evaluation}
+use Rattle.alu.specs.Evaluate.{firstOutOfRange, evaluation}
 use Rattle.bits.specs.Asked.{Width, Operands}
 use Rattle.bits.specs.declared.Ports.{Ports}
 use Rattle.alu.specs.declared.Kind.{Kind}
 use Rattle.alu.specs.declared.Kind.the-variants.{Arithmetic, Logic, Comparison}
-use Rattle.alu.specs.declared.Evaluation.{Evaluation}
 use Rattle.alu.specs.declared.Evaluation.the-variants.{Shown, Refused}
 use Rattle.bits.proofs.Words.{word-lt}
 

@@ -1,7 +1,7 @@
 -- Document 01, "Functions": "The evaluator is given function, width, left, right and carry, in that order. It refuses with 3 at
 -- the first (place 0 to 4) out of range: an operand must be below 2^n, a carry at most 1."
 use Prim.Native.Nat.{ℕ, _^_}
-use mathlib.Core.Bool.{Bool, false, not}
+use mathlib.Core.Bool.{not}
 use mathlib.Core.List.{[], _∷_}
 use lib.Dec.{leb, ltb, eqb}
 use Rattle.words.specs.Choice.{if_then_else_}

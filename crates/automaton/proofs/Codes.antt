@@ -1,7 +1,7 @@
 -- The tables of one place, as the code looks them up.
 use mathlib.Core.Path.{_≡_, refl, sym}
 use mathlib.Core.Bool.{Bool, true, false, not, Bool·beq, false≢true}
-use mathlib.Core.List.{List, [], _∷_}
+use mathlib.Core.List.{[], _∷_}
 use Prim.Native.Nat.{ℕ, _≤_, _/_, _%_}
 use native.Mathlib.Nat.{div-one}
 use lib.Dec.{eqb}

@@ -8,7 +8,7 @@ use lib.Dec.{leb, ltb}
 use lib.Pow.{low}
 use borrow.Author.Tests.{lt-ltb, le-ltb}
 use Rattle.words.specs.Choice.{if_then_else_}
-use Rattle.bits.specs.Bits.{num, exor, bit, top, word}
+use Rattle.bits.specs.Bits.{num, exor, word}
 use Rattle.bits.specs.Wiring.{wired, carried}
 use Rattle.bits.specs.Sum.{overflows, sum}
 use Rattle.bits.specs.Order.{below, compared}

@@ -2,7 +2,7 @@
 -- Nothing here has to be believed: the proofs show that runs of it give the ports of alu's Function.antt.
 use Prim.Native.Nat.{ℕ}
 use mathlib.Core.Bool.{Bool, true, false, not, _&&_, _||_}
-use mathlib.Core.List.{List, [], _∷_}
+use mathlib.Core.List.{[], _∷_}
 use lib.ListN.{getD}
 use Rattle.words.specs.Choice.{if_then_else_}
 use Rattle.bits.specs.Bits.{exor}

@@ -1,7 +1,6 @@
 -- What the types of a bench's fields say of any bench: so many entries in each table, prices of 8 bits. A bench that the code holds is
 -- always so; the definitions speak of lists of any length.
 use mathlib.Core.Path.{_≡_}
-use Prim.Native.Nat.{ℕ}
 use lib.ListN.{length}
 use Rattle.sequence.specs.Limits.{mostSources}
 use Rattle.soundness.specs.Shape.{TablesShaped}

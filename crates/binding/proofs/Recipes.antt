@@ -1,8 +1,7 @@
 -- What sides and recipes show, from what the code finds.
-use mathlib.Core.Path.{_≡_, refl, sym, ap, ap₂, _∙_}
+use mathlib.Core.Path.{_≡_, refl, sym, ap, _∙_}
 use mathlib.Core.Bool.{Bool, true, false}
 use Prim.Native.Nat.{ℕ, _^_, _<_}
-use Rattle.words.specs.Choice.{if_then_else_}
 use Rattle.bits.specs.Wiring.{wired, carried}
 use Rattle.alu.specs.Function.{functionOf, ports}
 use Rattle.bits.specs.declared.Ports.{Ports}
@@ -13,7 +12,6 @@ use Rattle.recipe.specs.declared.Fields.{Fields}
 use Rattle.binding.specs.Binding.{plain, sideShows, fromVector, fromTarget, recipeOf, shows}
 use Rattle.output.specs.Output.{outputsShow}
 use Rattle.binding.specs.declared.Side.{Side}
-use Rattle.output.specs.declared.Outputs.{Outputs}
 use Rattle.binding.specs.declared.Recipe.{Recipe}
 use Rattle.binding.specs.declared.Claim.{Claim}
 use Rattle.binding.specs.Right.{claimOf}

@@ -5,7 +5,6 @@ use Rattle.words.specs.Choice.{if_then_else_}
 use Rattle.bits.specs.Wiring.{wired, carried, I0, I1, ICIN}
 use Rattle.alu.specs.Function.{functionOf, ports}
 use Rattle.bits.specs.declared.Ports.{Ports}
-use Rattle.alu.specs.declared.Kind.{Kind}
 use Rattle.alu.specs.declared.Kind.the-variants.{Logic}
 use Rattle.recipe.specs.Fields.{fromScratch, vectorOf, fieldsOf}
 use Rattle.recipe.specs.declared.Fields.{Fields}

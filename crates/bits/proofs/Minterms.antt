@@ -1,16 +1,16 @@
 -- A logic vector on whole words: the sum of its minterms' words.
-use mathlib.Core.Path.{_≡_, refl, sym, ap, ap₂, _∙_, subst}
-use Prim.Native.Nat.{ℕ, zero, suc, _+_, _-_, _*_, _/_, _%_, _^_, _≤_, _<_}
+use mathlib.Core.Path.{_≡_, refl, sym, ap, ap₂, _∙_}
+use Prim.Native.Nat.{ℕ, zero, suc, _+_, _-_, _*_, _/_, _%_, _^_, _≤_}
 use native.Mathlib.Nat.{add-mul, add-comm, one-mul, zero-mul, div-one}
 use native.Mathlib.Omega.{arith}
 use mathlib.Core.Bool.{Bool, true, false, not, _&&_, true≢false, false≢true}
 use lib.Dec.{eqb}
 use lib.Pow.{pow-mono}
-use lib.Bits.{bitAnd, and-block, and-le-l, and-le-r}
+use lib.Bits.{bitAnd, and-block}
 use Rattle.bits.specs.Bits.{num, bit, word}
 use Rattle.bits.specs.Vector.{minterm, logicWord}
 use Rattle.bits.specs.Asked.{Operands}
-use Rattle.bits.proofs.Words.{pow2, word-lt, word-ext, word-bits, word-zeros, word-ones}
+use Rattle.bits.proofs.Words.{word-lt, word-ext, word-bits, word-zeros, word-ones}
 
 and-bits : (x y : Bool) → bitAnd (num x) (num y) ≡ num (x && y)
 and-bits true true = refl

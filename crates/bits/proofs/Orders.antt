@@ -6,7 +6,6 @@ use native.Mathlib.Decide.{decLt}
 use mathlib.Core.Bool.{Bool, true, false}
 use lib.Dec.{ltb}
 use borrow.Author.Tests.{lt-ltb, le-ltb}
-use Rattle.words.specs.Choice.{if_then_else_}
 use Rattle.bits.specs.Bits.{num, bit, top, word}
 use Rattle.bits.specs.Order.{below, compared}
 use Rattle.bits.specs.Asked.{Operands}

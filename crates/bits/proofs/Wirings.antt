@@ -3,7 +3,7 @@ use mathlib.Core.Path.{_≡_, refl, sym}
 use Prim.Native.Nat.{ℕ, zero, suc, _-_, _^_, _≤_, _<_}
 use native.Mathlib.Omega.{arith}
 use mathlib.Core.Bool.{Bool, true, false, not}
-use mathlib.Core.List.{List, [], _∷_}
+use mathlib.Core.List.{[], _∷_}
 use lib.ListN.{getD, List·getD-eq-default}
 use lib.Pow.{pow-pos, ones-lt}
 use Rattle.bits.specs.Wiring.{wired, carried, complement}

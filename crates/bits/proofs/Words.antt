@@ -1,19 +1,16 @@
 -- Laws of `word` and `bit`: a word is taken apart at its top bit.
-use mathlib.Core.Path.{_≡_, refl, sym, ap, ap₂, _∙_, subst}
+use mathlib.Core.Path.{_≡_, refl, sym, ap, ap₂, _∙_}
 use Prim.Native.Nat.{ℕ, zero, suc, _+_, _-_, _*_, _/_, _%_, _^_, _≤_, _<_}
-use native.Mathlib.Nat.{pow-suc, mod-lt, mod-eq-of-lt, zero-lt-suc, add-suc, add-zero, add-comm, mul-comm, mod-one, one-mul, zero-add, zero-mul, le-of-lt, lt-irrefl}
+use native.Mathlib.Nat.{pow-suc, mod-lt, mod-eq-of-lt, zero-lt-suc, add-comm, mod-one}
 use native.Mathlib.Omega.{arith}
 use native.Mathlib.Decide.{decLt}
-use mathlib.Core.Bool.{Bool, true, false, not, _&&_, cond, Bool·beq, false≢true}
-use lib.Dec.{eqb, ltb, T}
+use mathlib.Core.Bool.{Bool, true, false, not, _&&_, Bool·beq}
+use lib.Dec.{eqb, ltb}
 use native.Mathlib.Numerals.{one-add}
-use lib.Pow.{pow-pos, split, high, low, mod-pow-add, pow-add, ones-split, ones-lt}
-use lib.ListN.{getD, List·getD-eq-default}
-use mathlib.Core.List.{List, [], _∷_}
-use borrow.Author.Tests.{eqb-true, eqb-false, eq-eqb, ne-eqb, lt-ltb, le-ltb}
+use lib.Pow.{high, mod-pow-add, ones-split, ones-lt}
+use borrow.Author.Tests.{lt-ltb, le-ltb}
 use Rattle.words.proofs.Choices.{and-split, and-join, beq-true, beq-refl}
 use Rattle.bits.specs.Bits.{num, bit, top, word}
-use Rattle.bits.specs.Wiring.{wired, carried, complement}
 
 -- 2 ^ suc k, for omega
 pub pow2 : (k : ℕ) → 2 ^ suc k ≡ 2 ^ k + 2 ^ k

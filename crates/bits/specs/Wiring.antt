@@ -3,7 +3,7 @@
 -- n bits, or the one bit". The arithmetic functions choose what they add by the same codes, of their own inputs.
 use Prim.Native.Nat.{ℕ, _-_, _^_}
 use mathlib.Core.Bool.{Bool, true, false, not}
-use mathlib.Core.List.{List, [], _∷_}
+use mathlib.Core.List.{[], _∷_}
 use lib.ListN.{getD}
 
 -- all n bits of a word complemented

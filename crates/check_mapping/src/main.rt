@@ -1,47 +1,14 @@
 // Checks a mapping against its job: check_mapping JOB MAPPING, two file names. It prints ACCEPTED, or the refusal. What cannot be read or
 // written is said on standard error.
-use input::Input;
 use input::KEPT_WORDS;
-use libc::STDERR_FILENO;
 use lines::MOST_LINE_BYTES;
-ghost use Prim.Native.Nat.{_≤_};
-ghost use lib.ListN.{length};
-ghost use Rattle.input.specs.Read as R;
 
-// Reads the file that an argument names, or says why it cannot.
-fn read_file(argument: usize, words: &mut [u32]) -> Input
-    requires { ⌜ R.keptWords ≤ length (now words) ⌝ }
-    ensures { λ r. ⌜ r .kept ≤ R.keptWords ⌝ }
-{
-    let mut path = io::buffer();
-    let length = os::arg(argument, &mut path);
-    let fd = os::open_read(&path[..length]);
-    if fd < 0 {
-        os::fail(&path[..length]);
-        return Input {
-            kept: 0,
-            whole: 0,
-            cut: false,
-            failed: true,
-        };
-    }
-    let input = input::read_words(fd, words);
-    if input.failed {
-        os::fail(&path[..length]);
-    }
-    libc::close(fd);
-    input
-}
-
-fn main() {
-    if os::arg_count() != 3 {
-        io::write_all(STDERR_FILENO, b"usage: check_mapping JOB MAPPING\n");
-        return;
-    }
+// Checks the mapping of the two files.
+fn check() {
     let mut job = [0u32; KEPT_WORDS];
     let mut mapping = [0u32; KEPT_WORDS];
-    let first = read_file(1, &mut job);
-    let second = read_file(2, &mut mapping);
+    let first = input::read_file(1, &mut job);
+    let second = input::read_file(2, &mut mapping);
     let job_kept = first.kept;
     let mapping_kept = second.kept;
     let mut out = [0u8; MOST_LINE_BYTES];
@@ -53,4 +20,30 @@ fn main() {
         &mut out,
     );
     console::print(&out[..end]);
+}
+
+// How the program is called.
+const USAGE: [u8; 33] = *b"usage: check_mapping JOB MAPPING\n";
+
+fn help() {
+    console::print(&USAGE);
+    console::print(
+        b"\n\
+        Prints ACCEPTED, or the refusal of the mapping or of its job. The files hold words of four bytes, the lowest first, as\n\
+        map_job writes them and pack_words makes them of text.\n\
+        \n\
+        example: map_job mapping < job && check_mapping job mapping\n",
+    );
+}
+
+fn main() {
+    if arguments::asks_help() {
+        help();
+        return;
+    }
+    if os::arg_count() != 3 {
+        arguments::usage(&USAGE);
+        return;
+    }
+    check();
 }

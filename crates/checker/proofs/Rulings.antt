@@ -1,8 +1,8 @@
 -- The rest of the ways out: from the parts of a ruling to its answer.
 use mathlib.Core.Path.{_≡_, refl, sym, ap, subst, _∙_}
-use mathlib.Core.Bool.{Bool, true, false, not}
-use mathlib.Core.List.{List, [], _∷_}
-use Prim.Native.Nat.{ℕ, _+_}
+use mathlib.Core.Bool.{not}
+use mathlib.Core.List.{List}
+use Prim.Native.Nat.{ℕ}
 use native.Mathlib.Omega.{arith}
 use lib.Dec.{eqb}
 use lib.ListN.{length}
@@ -11,16 +11,13 @@ use Rattle.words.specs.Choice.{if_then_else_}
 use Rattle.words.specs.Paper.{refusal}
 use Rattle.words.specs.declared.Refusal.{Refusal}
 use Rattle.words.specs.declared.Witness.{Witness}
-use Rattle.binding.specs.Right.{isRight}
-use Rattle.binding.specs.declared.Claim.{Claim}
-use Rattle.verdict.specs.Verdicts.{Ruling, Gives, Names}
+use Rattle.verdict.specs.Verdicts.{Ruling, Gives}
 use Rattle.verdict.specs.declared.Verdict.{Verdict}
 use Rattle.verdict.specs.declared.Verdict.the-variants as verdict
 use Rattle.reader.specs.Starts.{gluePlace}
 use Rattle.reader.specs.declared.Job.{Job}
 use Rattle.reader.specs.declared.Mapping.{Mapping}
 use Rattle.table.specs.Parts.{sourcesOf, targetsOf, bindingsOf, Terms, termsWith}
-use Rattle.claims.specs.Claim.{claimIn}
 use Rattle.fitting.specs.Pair.{pairOf}
 use Rattle.fitting.specs.Fitting.{fitOf}
 use Rattle.fitting.specs.declared.Pair.{Pair}

@@ -1,7 +1,7 @@
 -- A bind that is accepted: when it is, what the bench is afterwards, and that two of them may change places.
 use mathlib.Core.Path.{_≡_, refl, sym, ap, _∙_}
 use mathlib.Core.Bool.{true, false, not}
-use mathlib.Core.List.{List, []}
+use mathlib.Core.List.{[]}
 use Prim.Native.Nat.{ℕ, _<_}
 use native.Mathlib.Omega.{arith}
 use lib.Dec.{eqb}
@@ -16,7 +16,7 @@ use Rattle.verdict.specs.Verdicts.{Ruling, Gives}
 use Rattle.sequence.specs.Limits.{mostSources}
 use Rattle.soundness.specs.Sound.{ruleFault}
 use Rattle.soundness.proofs.Soundness.{sound-sources}
-use Rattle.bench.specs.Calls.{soundBench, holding, gives, inTables, entryFor, boundAt, isTaken, bindFault, claimOn, bindOf, WrongAt, BindRuled, Binds, paperOf}
+use Rattle.bench.specs.Calls.{soundBench, holding, gives, entryFor, boundAt, isTaken, bindFault, claimOn, bindOf, WrongAt, BindRuled, Binds, paperOf}
 use Rattle.bench.specs.declared.Bench.{Bench}
 use Rattle.bench.specs.declared.Answer.{Answer}
 use Rattle.bench.specs.declared.Answer.the-variants.{Done, Count, Mapping, Refused, Wrong}

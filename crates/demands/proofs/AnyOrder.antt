@@ -10,7 +10,6 @@ use lib.ListN.{length, getD, set, replicate, length-append, length-set}
 use lib.Seq.{getD-append-seam, set-append-seam}
 use borrow.Author.Tests.{eq-eqb, ne-eqb}
 use Rattle.words.specs.Field.{kindOf, sourceFunction}
-use Rattle.words.specs.Paper.{accepted}
 use Rattle.recipe.specs.Fields.{sourceOf}
 use Rattle.verdict.specs.Verdicts.{Ruling}
 use Rattle.sequence.specs.Limits.{mostSources}

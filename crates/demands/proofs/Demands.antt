@@ -7,7 +7,7 @@ use mathlib.Core.List.{List, [], _∷_, _++_, List·Permᴰ}
 use Prim.Native.Nat.{ℕ, _≤_, _<_}
 use native.Mathlib.Omega.{arith}
 use lib.ListN.{length, drop, getD}
-use Rattle.words.specs.Paper.{Paper, accepted, refused}
+use Rattle.words.specs.Paper.{Paper, accepted}
 use Rattle.binding.specs.Right.{Right}
 use Rattle.binding.specs.declared.Claim.{Claim}
 use Rattle.verdict.specs.Verdicts.{Says, verdictPaper, Ruling, Judged, judgementPaper}

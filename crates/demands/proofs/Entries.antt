@@ -1,5 +1,5 @@
 -- The entries of a bench: where a bind puts its word, and which unbound source a refused finish names.
-use mathlib.Core.Path.{_≡_, refl, sym, ap, subst, _∙_}
+use mathlib.Core.Path.{_≡_, refl, ap, _∙_}
 use mathlib.Core.Bool.{Bool, true, false, false≢true}
 use mathlib.Core.List.{List, [], _∷_}
 use Prim.Native.Nat.{ℕ, zero, suc, _+_, _≤_, _<_}
@@ -7,7 +7,7 @@ use native.Mathlib.Decide.{decLt}
 use native.Mathlib.Numerals.{add-one}
 use native.Mathlib.Omega.{arith}
 use lib.Dec.{eqb}
-use lib.ListN.{length, getD, set, length-set}
+use lib.ListN.{length, getD, length-set}
 use lib.Seq.{getD-set-same, getD-set-other}
 use borrow.Author.Tests.{eqb-true, eqb-false}
 use Rattle.words.specs.Choice.{if_then_else_}
@@ -22,14 +22,13 @@ use Rattle.table.proofs.Entries.{in-job-parts}
 use Rattle.soundness.specs.Sound.{sourcesOn, targetsOn}
 use Rattle.soundness.proofs.Soundness.{sound-sources}
 use Rattle.entries.specs.Entries.{entryOf, firstEmpty}
-use Rattle.opening.specs.Opening.{tablesIn}
-use Rattle.bench.specs.Calls.{soundBench, opened, entryFor, unboundOn}
+use Rattle.bench.specs.Calls.{soundBench, entryFor, unboundOn}
 use Rattle.bench.specs.Shape.{Shaped}
 use Rattle.bench.specs.declared.Bench.{Bench}
 use Rattle.bench.proofs.Shapes.{sources-taken}
 use Rattle.bench.proofs.Binds.{tables-entry}
 use Rattle.demands.specs.Mapped.{sourceAt}
-use Rattle.demands.specs.Benches.{BenchOf, functionOn, entryOn, Adds, LowestUnbound}
+use Rattle.demands.specs.Benches.{BenchOf, functionOn, Adds, LowestUnbound}
 use Rattle.demands.proofs.Parts.{rises-to, source-at}
 use Rattle.demands.proofs.Allowed.{Allowed, boundOn, nothing-there}
 use Rattle.demands.proofs.Benches.{same-sources}

@@ -6,7 +6,7 @@ use Prim.Native.Nat.{ℕ, _+_}
 use native.Mathlib.Numerals.{add-one}
 use lib.Dec.{eqb}
 use lib.ListN.{set}
-use borrow.Author.Tests.{eq-eqb, eqb-true, not-true, not-false}
+use borrow.Author.Tests.{eq-eqb, eqb-true, not-false}
 use Rattle.words.specs.Choice.{if_then_else_}
 use Rattle.words.specs.Field.{sourceFunction}
 use Rattle.words.proofs.Choices.{either}

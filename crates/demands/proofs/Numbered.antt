@@ -8,7 +8,7 @@ use lib.Dec.{eqb}
 use Rattle.words.specs.Choice.{if_then_else_}
 use Rattle.words.specs.Field.{kindOf}
 use Rattle.words.specs.Kinds.{RULE}
-use Rattle.words.specs.Paper.{Paper, refusal, noRefusal, accepted}
+use Rattle.words.specs.Paper.{Paper, refusal, noRefusal}
 use Rattle.words.specs.declared.Refusal.{Refusal}
 use Rattle.words.proofs.Choices.{either}
 use Rattle.alu.specs.Function.{noFunction}

@@ -2,7 +2,7 @@
 use mathlib.Core.Path.{_≡_, refl, sym, ap, ap₂, subst, _∙_}
 use mathlib.Core.Bool.{true, false}
 use mathlib.Core.List.{List, [], _∷_}
-use Prim.Native.Nat.{ℕ, zero, suc, _+_, _-_, _≤_, _<_}
+use Prim.Native.Nat.{ℕ, zero, suc, _+_, _-_, _<_}
 use native.Mathlib.Omega.{arith}
 use lib.ListN.{length, take, drop, getD, replicate, length-drop}
 use lib.Seq.{length-take-le, take-at, drop-at, getD-take, getD-drop}
@@ -25,7 +25,6 @@ use Rattle.soundness.specs.Sound.{sourcesOn, targetsOn, tableWords, holds, tabl
 use Rattle.soundness.proofs.Soundness.{sound-when}
 use Rattle.opening.specs.Opening.{tableOf, tablesIn}
 use Rattle.bench.specs.Calls.{soundBench, opened, benchOfZeros, openOf, openFor}
-use Rattle.bench.specs.declared.Bench.{Bench}
 use Rattle.bench.specs.declared.Answer.the-variants.{Done}
 
 pub zeros-not-sound : soundBench benchOfZeros ≡ false

@@ -1,18 +1,17 @@
 -- A sound bench is a bench of the job of its own tables, however it came about.
 use mathlib.Core.Path.{_≡_, refl, sym, ap, ap₂, _∙_}
-use mathlib.Core.Bool.{true, false, not, _&&_, false≢true}
+use mathlib.Core.Bool.{true, false, not, false≢true}
 use mathlib.Core.List.{List, [], _∷_, _++_, append-nil}
-use Prim.Native.Nat.{ℕ, suc, _+_, _-_, _≤_}
+use Prim.Native.Nat.{ℕ, suc, _-_, _≤_}
 use native.Mathlib.Omega.{arith}
 use lib.Dec.{eqb}
 use lib.ListN.{length, take, drop, replicate, length-drop, take-append-drop}
 use lib.Seq.{length-take-le, take-at, drop-at}
 use borrow.Author.Tests.{eqb-true}
 use Rattle.words.specs.Kinds.{HEADER, PRICES}
-use Rattle.words.specs.declared.Prices.{Prices}
 use Rattle.words.proofs.Choices.{either, and-split}
 use Rattle.sequence.specs.Limits.{mostSources, mostTargets}
-use Rattle.reader.specs.Starts.{sourcesStart, targetsStart}
+use Rattle.reader.specs.Starts.{targetsStart}
 use Rattle.reader.specs.Job.{jobOf, WellFormedJob}
 use Rattle.reader.specs.declared.Job.{Job}
 use Rattle.reader.specs.declared.JobRead.{JobRead}
@@ -25,7 +24,7 @@ use Rattle.soundness.specs.Sound.{empty, sourcesOn, targetsOn, tableWords, hold
 use Rattle.soundness.specs.declared.Tables.{Tables}
 use Rattle.soundness.proofs.Soundness.{Sound, sound-holds}
 use Rattle.opening.specs.Opening.{tableOf, tablesIn}
-use Rattle.bench.specs.Calls.{soundBench, holding, opened}
+use Rattle.bench.specs.Calls.{soundBench}
 use Rattle.bench.specs.Shape.{Shaped}
 use Rattle.bench.specs.declared.Bench.{Bench}
 use Rattle.demands.specs.Benches.{BenchOf}

@@ -1,6 +1,6 @@
 -- The checker's paper tells an acceptance from every refusal: no refusal has the number 0.
-use mathlib.Core.Path.{_≡_, refl, sym, ap, subst, _∙_}
-use mathlib.Core.Bool.{true, false, false≢true}
+use mathlib.Core.Path.{_≡_, refl, ap, subst}
+use mathlib.Core.Bool.{true, false≢true}
 use mathlib.Core.List.{List, []}
 use Prim.Native.Nat.{ℕ}
 use Rattle.words.specs.Paper.{Paper, noRefusal, accepted}

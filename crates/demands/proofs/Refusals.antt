@@ -7,7 +7,7 @@ use Prim.Native.Nat.{ℕ}
 use lib.Dec.{eqb, ltb}
 use Rattle.words.specs.Field.{kindOf}
 use Rattle.words.specs.Kinds.{isRecipe}
-use Rattle.words.specs.Paper.{refusal, noRefusal, accepted}
+use Rattle.words.specs.Paper.{noRefusal, accepted}
 use Rattle.words.proofs.Choices.{either}
 use Rattle.alu.specs.Function.{noFunction}
 use Rattle.layout.specs.Layout.{recipeFault}

@@ -4,7 +4,7 @@ use mathlib.Core.Bool.{Bool, true, false, not, _&&_, false≢true}
 use mathlib.Core.List.{List, [], _∷_}
 use Prim.Native.Nat.{ℕ, _<_}
 use native.Mathlib.Omega.{arith}
-use lib.Dec.{eqb, leb, ltb}
+use lib.Dec.{eqb, ltb}
 use borrow.Author.Tests.{eqb-true, ltb-false}
 use Rattle.words.specs.Paper.{Paper, accepted}
 use Rattle.words.proofs.Choices.{either, and-split}
@@ -16,7 +16,7 @@ use Rattle.alu.specs.Range.{isFunction, isWidth}
 use Rattle.alu.specs.Evaluate.{firstOutOfRange, evaluation, paperOf}
 use Rattle.binding.specs.Binding.{recipeOf, shows, sideShows}
 use Rattle.output.specs.Output.{outputsShow}
-use Rattle.binding.specs.Right.{Agrees, every, samePorts, agrees, isRightFor, isRight, Right, claimOf}
+use Rattle.binding.specs.Right.{Agrees, every, agrees, isRightFor, isRight, claimOf}
 use Rattle.binding.proofs.Tests.{same-ports, right-test}
 use Rattle.demands.specs.Starred.{Case, _width_left_right_carry_shows_ocout_ovf_o1_, _right-at-every-width, _right-at_, _wrong-at_left_right_, Means, AllHold, none, more, starred}
 use Rattle.demands.proofs.EveryWidth.{rightAlways, right-always}

@@ -8,10 +8,9 @@ use Prim.Native.Nat.{ℕ, zero, suc, _^_, _≤_, _<_}
 use native.Mathlib.Omega.{arith}
 use lib.Dec.{eqb, ltb}
 use lib.ListN.{length, take, drop, replicate}
-use borrow.Author.Tests.{eq-eqb, eqb-true, eqb-false, ltb-true, lt-leb, le-ltb}
+use borrow.Author.Tests.{eqb-false, lt-leb, le-ltb}
 use Rattle.words.specs.Choice.{if_then_else_}
-use Rattle.words.specs.Paper.{Paper, refusal, accepted, refused, refusedWith}
-use Rattle.words.proofs.Choices.{either}
+use Rattle.words.specs.Paper.{Paper, refusal, accepted, refused}
 use Rattle.bits.specs.Bits.{num}
 use Rattle.bits.specs.declared.Ports.{Ports}
 use Rattle.alu.specs.Function.{functionOf, ports}
@@ -24,17 +23,14 @@ use Rattle.reader.specs.Job.{WellFormedJob}
 use Rattle.reader.specs.Mapping.{mappingOf}
 use Rattle.reader.specs.Mapping as reader
 use Rattle.reader.specs.declared.Job.{Job}
-use Rattle.reader.specs.declared.JobRead.the-variants as job-read
 use Rattle.reader.specs.declared.Mapping.{Mapping}
-use Rattle.reader.specs.declared.MappingRead.the-variants as mapping-read
 use Rattle.wellformed.proofs.Numbers.{job-number}
 use Rattle.table.specs.Parts.{sourcesOf, rulesOf, bindingsOf, termsOf}
-use Rattle.fitting.specs.Pair.{pairOf, withJob}
+use Rattle.fitting.specs.Pair.{pairOf}
 use Rattle.fitting.specs.declared.Fit.{Fit}
-use Rattle.pricer.specs.Pricing.{counted, glueOf, pricedPair, pricingOf}
+use Rattle.pricer.specs.Pricing.{counted, glueOf, pricingOf}
 use Rattle.pricer.specs.Pricing as pricer
 use Rattle.writer.specs.Write.{bindingWords, wordsNeeded, writtenOf}
-use Rattle.writer.specs.declared.Written.{Written}
 use Rattle.writer.specs.declared.Written.the-variants as written
 use Rattle.writer.proofs.Writing.{bindings-length}
 use Rattle.choice.specs.Choose.{Choice, Mapped, Unmappable}
@@ -44,11 +40,10 @@ use Rattle.mapper.proofs.Answering.{sources-length}
 use Rattle.checker.specs.Check.{Checks}
 use Rattle.checker.specs.declared.Checked.{Checked}
 use Rattle.soundness.specs.Sound.{filled}
-use Rattle.bench.specs.Calls.{soundBench, bindingsOn, gives, opened, priceOf, glueOn, unboundOn, mappingOn, finishWritten, finishOf}
+use Rattle.bench.specs.Calls.{soundBench, bindingsOn, opened, priceOf, glueOn, unboundOn, mappingOn, finishWritten, finishOf}
 use Rattle.bench.specs.Calls as bench
 use Rattle.bench.specs.Shape.{Shaped}
 use Rattle.bench.specs.declared.Bench.{Bench}
-use Rattle.bench.specs.declared.Answer as bench-answer
 use Rattle.bench.specs.declared.Answer.the-variants.{Refused}
 use Rattle.bench.specs.declared.After.{After}
 use Rattle.bench.proofs.Pricing.{empty-price}

@@ -1,12 +1,47 @@
-// The interface for programs in other languages: a job is mapped, a mapping is checked, a recipe is judged. Words and lent words pass
-// as a pointer and a length. Each call returns the number of document 01's refusal, 0 for none, stores its place, and puts the
+// The interface for programs in other languages: a function is evaluated, a recipe judged, a job mapped, a mapping priced and checked. Words
+// and lent words pass as a pointer and a length. Each call returns the number of document 01's refusal, 0 for none, stores its place, and puts the
 // values that come with the answer into the caller's `out`.
 mod answers;
 
 ghost use mathlib.Core.Path.{_≡_};
+ghost use Rattle.alu.specs.Evaluate as E;
+ghost use Rattle.pricer.specs.Pricing as P;
 ghost use Rattle.mapper.specs.Mapping as M;
 ghost use Rattle.report.specs.Told as R;
 ghost use Rattle.deqhulov.specs.Tells as D;
+
+// Evaluates a function at a width, two operands and a carry. The values are the four ports.
+#[no_mangle]
+pub extern "C" fn deqhulov_evaluate(
+    function: u32,
+    width: u32,
+    left: u64,
+    right: u64,
+    carry: u32,
+    place: &mut u64,
+    out: &mut [u64],
+) -> u32
+    ensures { λ r. ⌜ R.Told (E.paperOf (E.evaluation function width left right carry)) r (now (place .exit)) (now (out .entry)) (now (out .exit)) ⌝ }
+{
+    let evaluation = alu::evaluate(function, width, left, right, carry);
+    let told = answers::of_evaluation(evaluation);
+    report::tell(told, place, out)
+}
+
+// Prices a mapping under its job. The value is the glue count; that of a refusal 1 to 6 is 0 for the job and 1 for the mapping.
+#[no_mangle]
+pub extern "C" fn deqhulov_price(
+    job: &[u32],
+    mapping: &[u32],
+    place: &mut u64,
+    out: &mut [u64],
+) -> u32
+    ensures { λ r. ⌜ R.Told (P.paperOf (P.pricingOf (now (job .entry)) (now (mapping .entry)))) r (now (place .exit)) (now (out .entry)) (now (out .exit)) ⌝ }
+{
+    let priced = pricer::price(job, mapping);
+    let told = answers::of_price(priced);
+    report::tell(told, place, out)
+}
 
 // Maps a job into lent words. The value is the number of words written.
 #[no_mangle]

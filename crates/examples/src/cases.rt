@@ -37,11 +37,12 @@ fn change(words: &mut [u32], place: usize, word: u32) {
     }
 }
 
-// So many bytes of a job with a word changed.
+// So many bytes of a job with a word changed, mapped and opened.
 fn map(bytes: usize, place: usize, word: u32) {
     let mut job = JOB;
     change(&mut job, place, word);
     said::map(&job, bytes);
+    said::open(&job, bytes);
 }
 
 pub fn map_inputs() {

@@ -1,5 +1,5 @@
-// Maps the jobs of the examples and checks their mappings; each file is a text of words in hexadecimal digits. Then inputs for every other
-// kind of answer. All goes through the functions of the programs.
+// Maps the jobs of the examples and checks their mappings; each file is a text of words in hexadecimal digits, with comments. Then inputs for
+// every other kind of answer. All goes through the functions of the programs.
 mod cases;
 mod said;
 
@@ -28,10 +28,10 @@ fn take(hex: Hex, byte: u8, words: &mut [u32], count: usize) -> Taken
             count,
             bad: false,
         },
-        Step::Word(word) => {
+        Step::Word(word, next) => {
             words[count] = word;
             Taken {
-                hex: hex::no_digits(),
+                hex: next,
                 count: count + 1,
                 bad: false,
             }
@@ -48,7 +48,7 @@ fn take(hex: Hex, byte: u8, words: &mut [u32], count: usize) -> Taken
 fn words_in(bytes: &[u8], words: &mut [u32]) -> usize
     ensures { λ r. ⌜ r ≤ length (now (words .entry)) ⌝ }
 {
-    let mut hex = hex::no_digits();
+    let mut hex = hex::between(false);
     let mut count = 0;
     let mut i = 0;
     while i < bytes.len() {
@@ -66,6 +66,9 @@ fn words_in(bytes: &[u8], words: &mut [u32]) -> usize
     count
 }
 
+// The most bytes that are read of a file.
+const MOST_FILE_BYTES: usize = 8192;
+
 // Reads the words of a file's text.
 fn read_words(path: &[u8], words: &mut [u32]) -> usize
     ensures { λ r. ⌜ r ≤ length (now (words .entry)) ⌝ }
@@ -75,7 +78,7 @@ fn read_words(path: &[u8], words: &mut [u32]) -> usize
         os::fail(path);
         return 0;
     }
-    let mut bytes = [0u8; 8192];
+    let mut bytes = [0u8; MOST_FILE_BYTES];
     let n = io::read_full(fd, &mut bytes);
     libc::close(fd);
     words_in(&bytes[..n], words)

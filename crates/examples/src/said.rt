@@ -1,4 +1,4 @@
-// What map_job and check_mapping print of files: their words, and how many bytes of them are read.
+// What map_job, work_bench and check_mapping print of files: their words, and how many bytes of them are read.
 use input::Input;
 use lines::MOST_LINE_BYTES;
 use map_answers::MOST_TEXT_BYTES;
@@ -34,6 +34,15 @@ pub fn map(job: &[u32], bytes: usize) {
     let mut out = [0u8; MOST_TEXT_BYTES];
     let said = map_answers::map_input(&job[..kept], input, &mut lent, &mut out);
     let end = said.bytes;
+    console::print(&out[..end]);
+}
+
+pub fn open(job: &[u32], bytes: usize) {
+    let input = read_of(bytes, job.len());
+    let kept = input.kept;
+    let mut out = [0u8; bench_answers::MOST_TEXT_BYTES];
+    let opened = bench_answers::open(&job[..kept], input, &mut out);
+    let end = opened.bytes;
     console::print(&out[..end]);
 }
 

@@ -4,4 +4,5 @@ mod step;
 
 pub use step::Reading;
 pub use step::Step;
+pub use step::fits;
 pub use step::pass;

@@ -39,7 +39,7 @@ fn header_fits(file: File, word: u32) -> bool
 }
 
 // Refusal 3 unless this holds: the bits below the kind are as the layout says.
-fn fits(file: File, word: u32) -> bool
+pub fn fits(file: File, word: u32) -> bool
     ensures { λ r. ⌜ r ≡ R.fits file word ⌝ }
 {
     let kind = kind_of(word);

@@ -1,6 +1,7 @@
--- Words written as text: eight hexadecimal digits each, parted by spaces or line feeds.
+-- Words written as text: eight hexadecimal digits each, parted by spaces or line feeds; "#" to the end of the line is a comment.
 use Prim.Native.Nat.{ℕ, _+_, _-_, _*_, _%_, _^_}
-use mathlib.Core.Bool.{Bool, true}
+use mathlib.Core.Bool.{Bool, true, false, not}
+use mathlib.Core.List.{List, [], _∷_}
 use lib.Dec.{eqb, leb}
 use Rattle.words.specs.Choice.{if_then_else_}
 use Rattle.hex.specs.declared.Hex.{Hex}
@@ -19,21 +20,45 @@ digitOf b =
 unfoldable pub parts : ℕ → Bool
 parts b = if eqb b 32 then true else eqb b 10
 
--- between two words
-abbrev pub noDigits : Hex
-noDigits = record { digits = 0; value = 0 }
+-- between two words, in a comment or not
+abbrev pub between : Bool → Hex
+between comment = record { digits = 0; value = 0; comment = comment }
 
--- what a gap ends: nothing, a word of eight digits, or one that is too short
-unfoldable pub ended : Hex → Step
-ended h = if eqb (h .digits) 0 then More noDigits else if eqb (h .digits) 8 then Word (h .value) else Bad
+-- what a gap ends: nothing, a word of eight digits, or one that is too short; and whether a comment begins there
+unfoldable pub ended : Hex → Bool → Step
+ended h comment =
+    if eqb (h .digits) 0 then More (between comment)
+    else if eqb (h .digits) 8 then Word (h .value) (between comment)
+    else Bad
 
--- a digit more; there is none past the eighth, and seven digits are below 2 ^ 28
+-- a digit more; seven digits are below 2 ^ 28
+abbrev pub withDigit : Hex → ℕ → Hex
+withDigit h d = record { digits = h .digits + 1; value = h .value % 2 ^ 28 * 16 + d; comment = false }
+
+-- there is none past the eighth
 unfoldable pub extended : Hex → ℕ → Step
 extended h d =
     if leb 8 (h .digits) then Bad
     else if leb 16 d then Bad
-    else More (record { digits = h .digits + 1; value = h .value % 2 ^ 28 * 16 + d })
+    else More (withDigit h d)
 
--- one byte of the text
+-- one byte of the text; a comment begins with "#" and ends with its line
 unfoldable pub taken : Hex → ℕ → Step
-taken h b = if parts b then ended h else extended h (digitOf b)
+taken h b =
+    if h .comment then More (between (not (eqb b 10)))
+    else if eqb b 35 then ended h true
+    else if parts b then ended h false
+    else extended h (digitOf b)
+
+-- ---- a text that is the digits of one word
+
+-- the digits that are left of it
+unfoldable pub digitsLeft : Hex → List ℕ → Step
+digitsLeft h [] = ended h false
+digitsLeft h (b ∷ bs) =
+    if leb 8 (h .digits) then Bad
+    else if leb 16 (digitOf b) then Bad
+    else digitsLeft (withDigit h (digitOf b)) bs
+
+abbrev pub wordIn : List ℕ → Step
+wordIn text = digitsLeft (between false) text

@@ -18,8 +18,8 @@ use Rattle.io.specs.Counts.{clamped}
 use Rattle.words.proofs.Choices.{either}
 use Rattle.words.proofs.Copies.{sets-append}
 use Rattle.files.specs.Files.{wordsOf}
-use Rattle.input.specs.Read.{keptWords, keptBytes, least, inputOf, Read, progressOf, brought}
-use Rattle.input.specs.Kept.{Brings, Keeps}
+use Rattle.input.specs.Read.{keptWords, keptBytes, least, inputOf, Read}
+use Rattle.input.specs.Kept.{Brings, Keeps, progressOf, brought}
 use Rattle.input.specs.declared.Input.{Input}
 use Rattle.input.specs.declared.Progress.{Progress}
 

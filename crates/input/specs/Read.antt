@@ -2,18 +2,15 @@
 -- the system's choice; all else follows from it.
 use Prim.Native.Nat.{ℕ, _+_, _*_, _/_, _%_}
 use mathlib.Core.Path.{_≡_}
-use mathlib.Core.Bool.{Bool, true, false, not}
+use mathlib.Core.Bool.{Bool, not}
 use mathlib.Core.List.{List}
 use lib.Dec.{eqb, ltb}
-use lib.IntN.{ℤ, pos, negsuc}
 use lib.ListN.{length, take}
 use lib.Seq.{sets}
-use Rattle.io.specs.Counts.{clamped}
 use Rattle.words.specs.Choice.{if_then_else_}
 use Rattle.sequence.specs.Limits.{mostJobWords}
 use Rattle.files.specs.Files.{wordsOf}
 use Rattle.input.specs.declared.Input.{Input}
-use Rattle.input.specs.declared.Progress.{Progress}
 
 -- Of a file longer than any job so many words are kept, one more than a job can have; and their bytes.
 abbrev pub keptWords : ℕ
@@ -40,15 +37,3 @@ pub record Read (words after : List ℕ) (r : Input) : Type 0 where
   pub failed : Bool
   pub same : r ≡ inputOf (length file) failed
   pub kept : after ≡ sets words 0 (wordsOf (take keptBytes file))
-
--- ---- one read after so many bytes, into a chunk of a size: the system answers a negative number if it fails, 0 at the end of the file,
--- and else how many bytes of the chunk it brings
-
-abbrev pub progressOf : ℤ → ℕ → ℕ → Progress
-progressOf (pos n) size at =
-    record { bytes = at + clamped (pos n) size; ended = eqb (clamped (pos n) size) 0; failed = false }
-progressOf (negsuc n) size at = record { bytes = at; ended = true; failed = true }
-
--- the bytes that it brings
-abbrev pub brought : ℤ → List ℕ → List ℕ
-brought got chunk = take (clamped got (length chunk)) chunk

@@ -54,8 +54,8 @@ fn keep(chunk: &[u8], kept: &mut [u8], at: usize)
 // Takes what the system answered to a read: whether it failed, and else how many bytes of the chunk it brought.
 fn take_read(got: isize, chunk: &[u8], kept: &mut [u8], at: usize) -> Progress
     requires { ⌜ (at < 2 ^ 62) × (length (now chunk) ≤ 4096) ⌝ }
-    ensures progress { λ r. ⌜ r ≡ R.progressOf got (length (now (chunk .entry))) at ⌝ }
-    ensures kept { λ r. ⌜ now (kept .exit) ≡ sets (now (kept .entry)) at (take (length (now (kept .entry)) - at) (R.brought got (now (chunk .entry)))) ⌝ }
+    ensures progress { λ r. ⌜ r ≡ K.progressOf got (length (now (chunk .entry))) at ⌝ }
+    ensures kept { λ r. ⌜ now (kept .exit) ≡ sets (now (kept .entry)) at (take (length (now (kept .entry)) - at) (K.brought got (now (chunk .entry)))) ⌝ }
 {
     if got < 0 {
         return Progress {
@@ -129,4 +129,29 @@ pub fn read_words(fd: i32, words: &mut [u32]) -> Input
     let mut bytes = [0u8; KEPT_BYTES];
     let read = read_bytes(fd, &mut bytes);
     words_read(&bytes, read, words)
+}
+
+// Reads the file that an argument names, or says why it cannot.
+pub fn read_file(argument: usize, words: &mut [u32]) -> Input
+    requires { ⌜ R.keptWords ≤ length (now words) ⌝ }
+    ensures { λ r. ⌜ r .kept ≤ R.keptWords ⌝ }
+{
+    let mut path = io::buffer();
+    let length = os::arg(argument, &mut path);
+    let fd = os::open_read(&path[..length]);
+    if fd < 0 {
+        os::fail(&path[..length]);
+        return Input {
+            kept: 0,
+            whole: 0,
+            cut: false,
+            failed: true,
+        };
+    }
+    let input = read_words(fd, words);
+    if input.failed {
+        os::fail(&path[..length]);
+    }
+    libc::close(fd);
+    input
 }

@@ -4,9 +4,7 @@ use mathlib.Core.Bool.{Bool, true, false, not, _&&_}
 use Prim.Native.Nat.{ℕ, _/_, _^_}
 use lib.Bits.{bitAnd, and-mask}
 use lib.Dec.{eqb}
-use borrow.Author.Tests.{eq-eqb, ne-eqb, not-true, not-false}
-use Rattle.words.specs.Choice.{if_then_else_}
-use Rattle.words.specs.Field.{field}
+use borrow.Author.Tests.{not-true, not-false}
 use Rattle.alu.specs.Function.{functionOf, drives}
 use Rattle.alu.specs.Range.{isFunction}
 use Rattle.alu.specs.declared.PortSet.{PortSet}

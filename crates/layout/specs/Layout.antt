@@ -1,6 +1,6 @@
 -- Refusals 3, 5 and 6 of a recipe word.
 use Prim.Native.Nat.{ℕ}
-use mathlib.Core.Bool.{Bool, true, false, not, _&&_, _||_, Bool·beq}
+use mathlib.Core.Bool.{Bool, false, not, _&&_, _||_}
 use lib.Dec.{eqb, leb, ltb}
 use Rattle.words.specs.Choice.{if_then_else_}
 use Rattle.words.specs.Field.{field}

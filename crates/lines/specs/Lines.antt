@@ -12,6 +12,13 @@ use Rattle.text.specs.Text.{bytes, labelled}
 abbrev pub mostLineBytes : ℕ
 mostLineBytes = 160
 
+-- nor has a refusal's number and place, or what is said of a wrong recipe
+abbrev pub mostRefusalBytes : ℕ
+mostRefusalBytes = 49
+
+abbrev pub mostWitnessBytes : ℕ
+mostWitnessBytes = 106
+
 -- "REFUSED, number and place in decimal"
 unfoldable pub refusalText : Refusal → List ℕ
 refusalText r = labelled (bytes "REFUSED ") (r .number) ++ labelled (bytes " ") (r .place)

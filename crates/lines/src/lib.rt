@@ -10,12 +10,12 @@ ghost use Rattle.lines.specs.Lines as L;
 pub const MOST_LINE_BYTES: usize = 160;
 
 // A refusal's number and place.
-fn put_refusal(refusal: Refusal, out: &mut [u8]) -> usize
-    requires { ⌜ L.mostLineBytes ≤ length (now out) ⌝ }
-    ensures short { λ r. ⌜ r ≤ 49 ⌝ }
-    ensures text { λ r. ⌜ P.Puts (now (out .entry)) 0 (L.refusalText refusal) (now (out .exit)) r ⌝ }
+pub fn put_refusal(refusal: Refusal, out: &mut [u8], at: usize) -> usize
+    requires { ⌜ at + L.mostRefusalBytes ≤ length (now out) ⌝ }
+    ensures short { λ r. ⌜ r ≤ at + L.mostRefusalBytes ⌝ }
+    ensures text { λ r. ⌜ P.Puts (now (out .entry)) at (L.refusalText refusal) (now (out .exit)) r ⌝ }
 {
-    let end = text::put_labelled(b"REFUSED ", refusal.number as u64, out, 0);
+    let end = text::put_labelled(b"REFUSED ", refusal.number as u64, out, at);
     text::put_labelled(b" ", refusal.place as u64, out, end)
 }
 
@@ -25,7 +25,7 @@ pub fn refused_line(refusal: Refusal, out: &mut [u8]) -> usize
     ensures short { λ r. ⌜ r ≤ L.mostLineBytes ⌝ }
     ensures text { λ r. ⌜ P.Puts (now (out .entry)) 0 (L.refusedLine refusal) (now (out .exit)) r ⌝ }
 {
-    let end = put_refusal(refusal, out);
+    let end = put_refusal(refusal, out, 0);
     text::put(b"\n", out, end)
 }
 
@@ -35,7 +35,7 @@ pub fn refused_file_line(refusal: Refusal, mapping: bool, out: &mut [u8]) -> usi
     ensures short { λ r. ⌜ r ≤ L.mostLineBytes ⌝ }
     ensures text { λ r. ⌜ P.Puts (now (out .entry)) 0 (L.refusedFileLine refusal mapping) (now (out .exit)) r ⌝ }
 {
-    let end = put_refusal(refusal, out);
+    let end = put_refusal(refusal, out, 0);
     if mapping {
         return text::put(b" MAPPING\n", out, end);
     }
@@ -43,9 +43,9 @@ pub fn refused_file_line(refusal: Refusal, mapping: bool, out: &mut [u8]) -> usi
 }
 
 // The port, the operands and the carry at which a recipe differs from its source function.
-fn put_witness(witness: Witness, out: &mut [u8], at: usize) -> usize
-    requires { ⌜ at + 106 ≤ length (now out) ⌝ }
-    ensures short { λ r. ⌜ r ≤ at + 106 ⌝ }
+pub fn put_witness(witness: Witness, out: &mut [u8], at: usize) -> usize
+    requires { ⌜ at + L.mostWitnessBytes ≤ length (now out) ⌝ }
+    ensures short { λ r. ⌜ r ≤ at + L.mostWitnessBytes ⌝ }
     ensures text { λ r. ⌜ P.Puts (now (out .entry)) at (L.witnessText witness) (now (out .exit)) r ⌝ }
 {
     let port = text::put_labelled(b" PORT ", witness.port as u64, out, at);
@@ -64,7 +64,7 @@ pub fn wrong_line(witness: Witness, out: &mut [u8]) -> usize
         number: 10,
         place: witness.function as usize,
     };
-    let end = put_refusal(refusal, out);
+    let end = put_refusal(refusal, out, 0);
     let values = put_witness(witness, out, end);
     text::put(b"\n", out, values)
 }

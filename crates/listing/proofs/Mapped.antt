@@ -3,22 +3,14 @@ use mathlib.Core.Path.{_≡_, refl, sym, ap, _∙_}
 use mathlib.Core.List.{List, [], _∷_, _++_}
 use Prim.Native.Nat.{ℕ, _+_, _≤_, _<_}
 use native.Mathlib.Omega.{arith}
-use lib.ListN.{length, drop, getD, length-append, length-drop, drop-of-length-le}
+use lib.ListN.{length, drop, getD, length-drop, drop-of-length-le}
 use lib.Seq.{sets}
 use Rattle.words.specs.Field.{contentOf}
-use Rattle.words.proofs.Copies.{sets-append}
 use Rattle.words.proofs.Lists.{drop-next}
 use Rattle.text.specs.Text.{Puts}
+use Rattle.text.proofs.Joined.{rest-puts}
 use Rattle.reader.specs.Starts.{bindingsStart}
 use Rattle.listing.specs.Listing.{bindingLine, glueLine, mappedLines, mappedText}
-
--- what is left of a text after its first part
-pub rest-puts : {o p q xs ys : List ℕ} {a b c : ℕ} → Puts o a (xs ++ ys) q c → Puts o a xs p b → Puts p b ys q c
-rest-puts {o} {p} {q} {xs} {ys} {a} {b} {c} f g =
-    record {
-      ends = omega (arith, f .ends, g .ends, length-append xs ys);
-      put = f .put ∙ rw (g .put, g .ends) (sym (sets-append xs ys o a));
-    }
 
 binding-first : (w : ℕ) (ws : List ℕ) → 0 < length ws → mappedLines (w ∷ ws) ≡ bindingLine w ++ mappedLines ws
 unfolding mappedLines

@@ -10,7 +10,7 @@ pub const MOST_BINDING_BYTES: usize = 21;
 pub const MOST_GLUE_BYTES: usize = 26;
 
 // A binding: its source, its target or LV, and its word.
-fn binding_line(word: u32, out: &mut [u8], at: usize) -> usize
+pub fn binding_line(word: u32, out: &mut [u8], at: usize) -> usize
     requires { ⌜ at + L.mostBindingBytes ≤ length (now out) ⌝ }
     ensures short { λ r. ⌜ r ≤ at + L.mostBindingBytes ⌝ }
     ensures text { λ r. ⌜ P.Puts (now (out .entry)) at (L.bindingLine word) (now (out .exit)) r ⌝ }
@@ -24,7 +24,7 @@ fn binding_line(word: u32, out: &mut [u8], at: usize) -> usize
 }
 
 // The glue count.
-fn glue_line(count: u32, out: &mut [u8], at: usize) -> usize
+pub fn glue_line(count: u32, out: &mut [u8], at: usize) -> usize
     requires { ⌜ at + L.mostGlueBytes ≤ length (now out) ⌝ }
     ensures short { λ r. ⌜ r ≤ at + L.mostGlueBytes ⌝ }
     ensures text { λ r. ⌜ P.Puts (now (out .entry)) at (L.glueLine count) (now (out .exit)) r ⌝ }

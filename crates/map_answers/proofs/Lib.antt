@@ -1,4 +1,3 @@
 pub mod Mapped
-pub mod Filed
 pub mod BeforeAll
 pub mod OfBytes

@@ -6,16 +6,12 @@ ghost use mathlib.Core.Path.{_≡_};
 ghost use Prim.Native.Nat.{_*_, _≤_};
 ghost use lib.ListN.{length};
 ghost use Rattle.text.specs.Text as P;
-ghost use Rattle.files.specs.Files as F;
 ghost use Rattle.map_answers.specs.Answers as S;
 ghost use Rattle.map_answers.specs.Asked as Q;
 
 // The most bytes of a text: a line for each word of a mapping, and room for the longest line.
 pub const MOST_TEXT_BYTES: usize = listing::MOST_BINDING_BYTES * sequence::MOST_MAPPING_WORDS
     + lines::MOST_LINE_BYTES;
-
-// The most bytes of a mapping's file.
-pub const MOST_FILE_BYTES: usize = 4 * sequence::MOST_MAPPING_WORDS;
 
 // Whether the input could not be read, how many bytes of text were put, and how many words of a mapping were written.
 pub struct Said {
@@ -79,20 +75,4 @@ pub fn map_input(job: &[u32], input: Input, lent: &mut [u32], out: &mut [u8]) ->
     }
     let answer = map_file(job, input, lent);
     put_answer(answer, lent, out)
-}
-
-// The bytes of a mapping's file.
-pub fn put_file(words: &[u32], out: &mut [u8]) -> usize
-    requires { ⌜ 4 * length (now words) ≤ length (now out) ⌝ }
-    ensures fits { λ r. ⌜ r ≤ length (now (out .entry)) ⌝ }
-    ensures text { λ r. ⌜ P.Puts (now (out .entry)) 0 (F.fileOf (now (words .entry))) (now (out .exit)) r ⌝ }
-{
-    let mut at = 0;
-    let mut i = 0;
-    while i < words.len() {
-        let bytes = files::bytes_of(words[i]);
-        at = text::put(&bytes, out, at);
-        i += 1;
-    }
-    at
 }

@@ -1,13 +1,12 @@
 -- The mapper's answer and the lent words, from the choice.
 use mathlib.Core.Path.{_≡_, refl, sym, ap, _∙_, subst}
-use mathlib.Core.Bool.{Bool, true, false, not}
-use mathlib.Core.List.{List, [], _∷_}
-use Prim.Native.Nat.{ℕ, _+_, _-_, _^_, _≤_, _<_}
+use mathlib.Core.Bool.{true, false, not}
+use mathlib.Core.List.{List, []}
+use Prim.Native.Nat.{ℕ, _≤_}
 use native.Mathlib.Omega.{arith}
 use borrow.Author.Tests.{not-true, not-false}
 use lib.ListN.{length, take, drop, length-drop}
 use lib.Seq.{length-take-le}
-use Rattle.words.specs.Choice.{if_then_else_}
 use Rattle.bits.specs.Asked.{Width}
 use Rattle.words.specs.Paper.{refusal}
 use Rattle.words.specs.declared.Refusal.{Refusal}
@@ -20,7 +19,6 @@ use Rattle.reader.specs.declared.JobRead.the-variants as read
 use Rattle.wellformed.proofs.JobWords.{JobFacts, well-formed}
 use Rattle.table.specs.Parts.{sourcesOf, targetsOf, rulesOf, termsWith}
 use Rattle.glue.specs.Glue.{glue}
-use Rattle.usage.specs.Sets.{usage}
 use Rattle.tally.specs.Parts.{setCount}
 use Rattle.tally.proofs.Joining.{price-is-glue}
 use Rattle.writer.specs.Asked.{Writable}
@@ -28,7 +26,7 @@ use Rattle.writer.specs.Write.{mappingWords, writtenOf, lentAfter}
 use Rattle.writer.specs.declared.Written.{Written}
 use Rattle.writer.specs.declared.Written.the-variants as written
 use Rattle.choice.specs.Choose.{Choice, Mapped, Unmappable, choose}
-use Rattle.choice.specs.Chosen.{keptAs, KeptChoice, WritableChoice}
+use Rattle.choice.specs.Chosen.{KeptChoice, WritableChoice}
 use Rattle.mapper.specs.Mapping.{choiceOf, chosenWords, answerTo, answerFor, answerOf, lentTo, lentFor, lentAfterMap}
 use Rattle.choice.specs.declared.Chosen.{Chosen}
 use Rattle.mapper.specs.declared.Answer.{Answer}

@@ -1,7 +1,7 @@
 -- Document 01, "What a binding shows": "O0 shows the main output, OCOUT the carry out, OVF the overflow, O1 the comparison code; none shows 0."
 use Prim.Native.Nat.{ℕ, _-_, _^_}
-use mathlib.Core.Bool.{Bool, true, false, not, _&&_, _||_}
-use mathlib.Core.List.{List, [], _∷_}
+use mathlib.Core.Bool.{Bool, false, not, _&&_, _||_}
+use mathlib.Core.List.{[], _∷_}
 use lib.ListN.{getD}
 use lib.Dec.{eqb}
 use Rattle.bits.specs.Bits.{exor, top}

@@ -1,6 +1,6 @@
 -- Fields packed and taken apart again are the same fields; a word taken apart and packed again is the same word.
 use mathlib.Core.Path.{_≡_, sym}
-use Prim.Native.Nat.{ℕ, _+_, _*_, _^_, _<_}
+use Prim.Native.Nat.{ℕ, _+_, _^_, _<_}
 use native.Mathlib.Nat.{div-one}
 use native.Mathlib.Omega.{arith}
 use lib.Pow.{recompose, mod-pow-add}

@@ -1,11 +1,12 @@
 // A refusal and values in document 01's numbers, and how they are told to a caller in another language.
+use bits::Ports;
 use words::Refusal;
 use words::Witness;
 ghost use mathlib.Core.Path.{_≡_};
 ghost use Prim.Native.Nat.{_≤_};
 ghost use lib.ListN.{length};
 ghost use mathlib.Core.List.{[], _∷_};
-ghost use Rattle.words.specs.Paper.{refusedWith, told};
+ghost use Rattle.words.specs.Paper.{accepted, refusedWith, told};
 ghost use Rattle.bits.specs.Bits.{num};
 ghost use Rattle.writer.specs.Write as W;
 ghost use Rattle.report.specs.Told as D;
@@ -51,6 +52,22 @@ pub fn refused(refusal: Refusal) -> Report
         refusal,
         count: 0,
         values: [0, 0, 0, 0],
+    }
+}
+
+// What the evaluator shows: the four ports.
+pub fn shown(ports: Ports) -> Report
+    ensures { λ r. ⌜ r ≡ D.reportOf (accepted (ports .o0 ∷ num (ports .ocout) ∷ num (ports .ovf) ∷ num (ports .o1) ∷ [])) ⌝ }
+{
+    Report {
+        refusal: NONE,
+        count: MOST_VALUES,
+        values: [
+            ports.o0,
+            number(ports.ocout),
+            number(ports.ovf),
+            number(ports.o1),
+        ],
     }
 }
 

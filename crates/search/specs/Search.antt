@@ -1,7 +1,7 @@
 -- What the search for operands at which a recipe fails has found.
 -- Nothing here has to be believed: the proofs show that what it finds is what Verdicts.antt of the crate verdict says.
 use Prim.Native.Nat.{ℕ, _^_, _<_}
-use mathlib.Core.Bool.{Bool, false}
+use mathlib.Core.Bool.{false}
 use mathlib.Core.Path.{_≡_}
 use mathlib.Core.List.{List}
 use Rattle.words.specs.Choice.{if_then_else_}

@@ -1,6 +1,6 @@
 -- What the types of the tables' fields say of any tables. Nobody has to believe this: the code's types say it.
 use mathlib.Core.Path.{_≡_}
-use Prim.Native.Nat.{ℕ, _≤_}
+use Prim.Native.Nat.{_≤_}
 use lib.ListN.{length}
 use Rattle.sequence.specs.Limits.{mostSources, mostTargets}
 use Rattle.soundness.specs.declared.Tables.{Tables}

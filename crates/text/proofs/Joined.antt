@@ -1,5 +1,5 @@
--- Texts put one after the other, and how long a name is.
-use mathlib.Core.Path.{_≡_, _∙_, subst}
+-- Texts put one after the other, and how long a cell is.
+use mathlib.Core.Path.{_≡_, sym, _∙_, subst}
 use mathlib.Core.List.{List, [], _∷_, _++_}
 use Prim.Native.Nat.{ℕ, suc, _*_, _≤_}
 use native.Mathlib.Omega.{arith}
@@ -7,7 +7,7 @@ use lib.Dec.{eqb}
 use lib.ListN.{length, take, drop, length-append, length-take}
 use Rattle.words.proofs.Choices.{either}
 use Rattle.words.proofs.Copies.{sets-append}
-use Rattle.text.specs.Text.{Puts, trimmed, nameOf, names, digits, digitsIn, decimal}
+use Rattle.text.specs.Text.{Puts, trimmed, cellOf, nameOf, names, digits, digitsIn, decimal}
 
 pub after-put : {o p q xs ys : List ℕ} {a b c : ℕ} → Puts o a xs p b → Puts p b ys q c → Puts o a (xs ++ ys) q c
 after-put {o} {p} {q} {xs} {ys} {a} {b} {c} f g =
@@ -16,18 +16,31 @@ after-put {o} {p} {q} {xs} {ys} {a} {b} {c} f g =
       put = g .put ∙ rw (f .put, f .ends) (sets-append xs ys o a);
     }
 
--- ---- how long a name is
+-- what is left of a text after its first part
+pub rest-puts : {o p q xs ys : List ℕ} {a b c : ℕ} → Puts o a (xs ++ ys) q c → Puts o a xs p b → Puts p b ys q c
+rest-puts {o} {p} {q} {xs} {ys} {a} {b} {c} f g =
+    record {
+      ends = omega (arith, f .ends, g .ends, length-append xs ys);
+      put = f .put ∙ rw (g .put, g .ends) (sym (sets-append xs ys o a));
+    }
+
+-- ---- how long a cell is, and a name
 
 trimmed-length : (cs : List ℕ) → length (trimmed cs) ≤ length cs
 unfolding trimmed
 trimmed-length [] = omega arith
 trimmed-length (c ∷ cs) =
-    either (λ (l : List ℕ). length l ≤ suc (length cs)) (eqb c 32) {x = []} {y = c ∷ trimmed cs} (λ _. omega arith)
+    either (λ (l : List ℕ). length l ≤ suc (length cs)) (eqb c 46) {x = []} {y = c ∷ trimmed cs} (λ _. omega arith)
     (λ _. omega (arith, trimmed-length cs))
+
+pub cell-length : (table : List ℕ) (size i : ℕ) → length (cellOf table size i) ≤ size
+unfolding cellOf
+cell-length table size i =
+    omega (arith, trimmed-length (take size (drop (size * i) table)), length-take size (drop (size * i) table))
 
 pub name-length : (f : ℕ) → length (nameOf f) ≤ 5
 unfolding nameOf
-name-length f = omega (arith, trimmed-length (take 5 (drop (5 * f) names)), length-take 5 (drop (5 * f) names))
+name-length f = cell-length names 5 f
 
 -- ---- a number in decimal
 

@@ -1,2 +1,3 @@
 pub mod Putting
 pub mod Joined
+pub mod Compared

@@ -9,7 +9,8 @@ use lib.Seq.{sets, set-comm}
 use borrow.Author.Tests.{lt-ltb, le-ltb, eq-eqb, ne-eqb}
 use Rattle.words.proofs.Copies.{sets-append}
 use Rattle.words.proofs.Lists.{drop-next}
-use Rattle.text.specs.Text.{Puts, names, trimmed, nameOf, glyph, digits, digitsIn}
+use Rattle.text.proofs.Joined.{cell-length}
+use Rattle.text.specs.Text.{Puts, names, trimmed, cellOf, nameOf, glyph, digits, digitsIn}
 
 -- ---- how many digits
 
@@ -75,31 +76,31 @@ pub no-digit-left : (base i rest at : ℕ) (out whole : List ℕ) → i ≤ 0 �
 unfolding digits
 no-digit-left base i rest at out whole h e = let q : i ≡ 0 = omega arith in rw q at e
 
--- ---- what stands before the first space
+-- ---- what stands before the padding
 
 module _ (bytes out whole : List ℕ) (at i n : ℕ) (h : i < length bytes)
     (e : sets out (at + i) (trimmed (drop i bytes)) ≡ whole) (l : at + i + length (trimmed (drop i bytes)) ≡ n) where
   head-is : drop i bytes ≡ getD bytes i 0 ∷ drop (i + 1) bytes
   head-is = drop-next bytes i h
 
-  pub space-after : getD bytes i 0 ≡ 32 → at + i ≡ n
+  pub padding-after : getD bytes i 0 ≡ 46 → at + i ≡ n
   unfolding trimmed
-  space-after s = let q = rw (head-is, eq-eqb (getD bytes i 0) 32 s) at l in omega arith
+  padding-after s = let q = rw (head-is, eq-eqb (getD bytes i 0) 46 s) at l in omega arith
 
-  pub space-text : getD bytes i 0 ≡ 32 → out ≡ whole
+  pub padding-text : getD bytes i 0 ≡ 46 → out ≡ whole
   unfolding trimmed
-  space-text s = rw (head-is, eq-eqb (getD bytes i 0) 32 s) at e
+  padding-text s = rw (head-is, eq-eqb (getD bytes i 0) 46 s) at e
 
-  pub byte-text : (getD bytes i 0 ≡ 32 → ⊥)
+  pub byte-text : (getD bytes i 0 ≡ 46 → ⊥)
       → sets (set out (at + i) (getD bytes i 0)) (at + (i + 1)) (trimmed (drop (i + 1) bytes)) ≡ whole
   unfolding trimmed
   byte-text s =
-      let p = rw (head-is, ne-eqb (getD bytes i 0) 32 s) at e in
+      let p = rw (head-is, ne-eqb (getD bytes i 0) 46 s) at e in
       let z : at + (i + 1) ≡ suc (at + i) = omega arith in rw z p
 
-  pub byte-after : (getD bytes i 0 ≡ 32 → ⊥) → at + (i + 1) + length (trimmed (drop (i + 1) bytes)) ≡ n
+  pub byte-after : (getD bytes i 0 ≡ 46 → ⊥) → at + (i + 1) + length (trimmed (drop (i + 1) bytes)) ≡ n
   unfolding trimmed
-  byte-after s = let q = rw (head-is, ne-eqb (getD bytes i 0) 32 s) at l in omega arith
+  byte-after s = let q = rw (head-is, ne-eqb (getD bytes i 0) 46 s) at l in omega arith
 
 module _ (bytes out whole : List ℕ) (at i n : ℕ) (h : length bytes ≤ i)
     (e : sets out (at + i) (trimmed (drop i bytes)) ≡ whole) (l : at + i + length (trimmed (drop i bytes)) ≡ n) where
@@ -114,7 +115,7 @@ module _ (bytes out whole : List ℕ) (at i n : ℕ) (h : length bytes ≤ i)
 -- ---- names
 
 no-name : (f : ℕ) → 27 < f → nameOf f ≡ []
-unfolding nameOf trimmed
+unfolding nameOf cellOf trimmed
 no-name f h =
     let l : length names ≤ 5 * f = omega arith in
     let e : drop (5 * f) names ≡ [] = drop-of-length-le names l in rw e refl
@@ -125,10 +126,20 @@ no-name-after f at h = rw (no-name f h) (omega arith)
 pub no-name-text : (f at : ℕ) (out : List ℕ) → 27 < f → out ≡ sets out at (nameOf f)
 no-name-text f at out h = rw (no-name f h) refl
 
-pub name-puts : (f at start end : ℕ) (out after : List ℕ) → start ≡ 5 * f
-    → Puts out at (trimmed (take (start + 5 - start) (drop start names))) after end → Puts out at (nameOf f) after end
-unfolding nameOf
-name-puts f at start end out after s p =
-    let q : start + 5 - start ≡ 5 = omega arith in
+-- ---- a cell
+
+pub cell-puts : (table : List ℕ) (size i at start end : ℕ) (out after : List ℕ) → start ≡ size * i
+    → Puts out at (trimmed (take (start + size - start) (drop start table))) after end
+    → (end ≤ at + size) × Puts out at (cellOf table size i) after end
+unfolding cellOf
+cell-puts table size i at start end out after s p =
+    let q : start + size - start ≡ size = omega arith in
+    let r : Puts out at (trimmed (take size (drop (size * i) table))) after end =
     subst (λ (l : List ℕ). Puts out at l after end)
-    (ap (λ (m : ℕ). trimmed (take m (drop start names))) q ∙ ap (λ (m : ℕ). trimmed (take 5 (drop m names))) s) p
+    (ap (λ (m : ℕ). trimmed (take m (drop start table))) q ∙ ap (λ (m : ℕ). trimmed (take size (drop m table))) s) p
+    in
+    (omega (arith, r .ends, cell-length table size i), r)
+
+pub name-puts : (f at end : ℕ) (out after : List ℕ) → Puts out at (cellOf names 5 f) after end → Puts out at (nameOf f) after end
+unfolding nameOf
+name-puts f at end out after p = p

@@ -4,6 +4,7 @@ use mathlib.Core.Path.{_≡_}
 use Prim.Native.Nat.{ℕ, zero, suc, _+_, _*_, _/_, _%_}
 use Prim.Native.Char.{code}
 use Prim.Native.String.{String, [] as no-text, _∷_ as _then_}
+use mathlib.Core.Bool.{Bool, true, false}
 use mathlib.Core.List.{List, [], _∷_, _++_}
 use lib.Dec.{ltb, eqb}
 use lib.ListN.{length, take, drop}
@@ -14,25 +15,36 @@ abbrev pub bytes : String → List ℕ
 bytes no-text = []
 bytes (c then s) = code c ∷ bytes s
 
+-- whether two texts are the same bytes
+unfoldable pub same : List ℕ → List ℕ → Bool
+same [] [] = true
+same [] (y ∷ ys) = false
+same (x ∷ xs) [] = false
+same (x ∷ xs) (y ∷ ys) = if eqb x y then same xs ys else false
+
 -- a text put into lent bytes at a position, and the position after it
 pub record Puts (out : List ℕ) (at : ℕ) (text : List ℕ) (after : List ℕ) (end : ℕ) : Type 0 where
   pub ends : end ≡ at + length text
   pub put : after ≡ sets out at text
 
--- ---- names
+-- ---- tables of names and spellings: cells of one size, padded by full stops
+
+-- what stands before the first full stop
+unfoldable pub trimmed : List ℕ → List ℕ
+trimmed [] = []
+trimmed (c ∷ cs) = if eqb c 46 then [] else c ∷ trimmed cs
+
+-- the cell of a table at an index, by the size of its cells
+unfoldable pub cellOf : List ℕ → ℕ → ℕ → List ℕ
+cellOf table size i = trimmed (take size (drop (size * i) table))
 
 -- LV for 0, from scratch, and the functions 1 to 27, five characters each
 abbrev pub names : List ℕ
 names =
-    bytes "LV   ADD  SUB  RSUB INC  DEC  ZERO ONE  AND  NAND OR   NOR  XOR  XNOR LID  RID  LNOT RNOT LINHIRINHILIMPLRIMPLEQ   NEQ  GT   LT   GEQ  LEQ  "
-
--- what stands before the first space
-unfoldable pub trimmed : List ℕ → List ℕ
-trimmed [] = []
-trimmed (c ∷ cs) = if eqb c 32 then [] else c ∷ trimmed cs
+    bytes "LV...ADD..SUB..RSUB.INC..DEC..ZERO.ONE..AND..NAND.OR...NOR..XOR..XNOR.LID..RID..LNOT.RNOT.LINHIRINHILIMPLRIMPLEQ...NEQ..GT...LT...GEQ..LEQ.."
 
 unfoldable pub nameOf : ℕ → List ℕ
-nameOf f = trimmed (take 5 (drop (5 * f) names))
+nameOf f = cellOf names 5 f
 
 -- ---- numbers
 

@@ -1,6 +1,6 @@
 // Bytes, names and numbers put into lent bytes, from a position on.
 ghost use mathlib.Core.Path.{_≡_};
-ghost use Prim.Native.Nat.{_+_, _≤_};
+ghost use Prim.Native.Nat.{_+_, _*_, _≤_};
 ghost use lib.ListN.{length};
 ghost use Rattle.text.specs.Text as T;
 
@@ -17,7 +17,27 @@ pub fn put(bytes: &[u8], out: &mut [u8], at: usize) -> usize
     at + i
 }
 
-// Puts what stands before the first space.
+// Whether two texts are the same bytes.
+pub fn same(a: &[u8], b: &[u8]) -> bool
+    ensures { λ r. ⌜ r ≡ T.same (now (a .entry)) (now (b .entry)) ⌝ }
+{
+    if a.len() != b.len() {
+        return false;
+    }
+    let mut i = 0;
+    while i < a.len() {
+        if a[i] != b[i] {
+            return false;
+        }
+        i += 1;
+    }
+    true
+}
+
+// What a table's cells are padded with: some spellings have spaces.
+const PADDING: u8 = b'.';
+
+// Puts what stands before the padding.
 fn put_trimmed(bytes: &[u8], out: &mut [u8], at: usize) -> usize
     requires { ⌜ at + length (now bytes) ≤ length (now out) ⌝ }
     ensures text { λ r. ⌜ T.Puts (now (out .entry)) at (T.trimmed (now (bytes .entry))) (now (out .exit)) r ⌝ }
@@ -25,7 +45,7 @@ fn put_trimmed(bytes: &[u8], out: &mut [u8], at: usize) -> usize
     let mut i = 0;
     while i < bytes.len() {
         let byte = bytes[i];
-        if byte == 32 {
+        if byte == PADDING {
             return at + i;
         }
         out[at + i] = byte;
@@ -34,9 +54,19 @@ fn put_trimmed(bytes: &[u8], out: &mut [u8], at: usize) -> usize
     at + i
 }
 
+// Puts a cell of a table, by the size of its cells.
+pub fn put_cell(table: &[u8], size: usize, index: usize, out: &mut [u8], at: usize) -> usize
+    requires { ⌜ (size * index + size ≤ length (now table)) × (at + size ≤ length (now out)) ⌝ }
+    ensures short { λ r. ⌜ r ≤ at + size ⌝ }
+    ensures text { λ r. ⌜ T.Puts (now (out .entry)) at (T.cellOf (now (table .entry)) size index) (now (out .exit)) r ⌝ }
+{
+    let start = size * index;
+    put_trimmed(&table[start..start + size], out, at)
+}
+
 // The names of the functions, five bytes each; LV stands for 0.
 const NAMES: [u8; 140] =
-    *b"LV   ADD  SUB  RSUB INC  DEC  ZERO ONE  AND  NAND OR   NOR  XOR  XNOR LID  RID  LNOT RNOT LINHIRINHILIMPLRIMPLEQ   NEQ  GT   LT   GEQ  LEQ  ";
+    *b"LV...ADD..SUB..RSUB.INC..DEC..ZERO.ONE..AND..NAND.OR...NOR..XOR..XNOR.LID..RID..LNOT.RNOT.LINHIRINHILIMPLRIMPLEQ...NEQ..GT...LT...GEQ..LEQ..";
 
 // Puts the name of a function; there is none for a number above the last.
 pub fn put_name(function: u32, out: &mut [u8], at: usize) -> usize
@@ -47,8 +77,7 @@ pub fn put_name(function: u32, out: &mut [u8], at: usize) -> usize
     if alu::FUNCTIONS < function {
         return at;
     }
-    let start = 5 * (function as usize);
-    put_trimmed(&NAMES[start..start + 5], out, at)
+    put_cell(&NAMES, 5, function as usize, out, at)
 }
 
 fn glyph(digit: u64) -> u8

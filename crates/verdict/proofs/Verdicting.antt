@@ -9,7 +9,6 @@ use Rattle.words.specs.Choice.{if_then_else_}
 use Rattle.words.specs.Field.{kindOf}
 use Rattle.words.specs.Kinds.{isRecipe}
 use Rattle.words.specs.Paper.{refusal}
-use Rattle.words.specs.declared.Refusal.{Refusal}
 use Rattle.words.specs.declared.Witness.{Witness}
 use Rattle.words.proofs.Choices.{beq-true, beq-refl, false-of}
 use Rattle.alu.specs.Range.{isWidth}
@@ -21,12 +20,11 @@ use Rattle.binding.specs.Right.{Right, isRight, claimOf}
 use Rattle.binding.specs.declared.Claim.{Claim}
 use Rattle.binding.proofs.Tests.{right-test}
 use Rattle.search.specs.Search.{Found}
-use Rattle.verdict.specs.Verdicts.{lowestPort, noPort, Says, Sentence, Refuses, Decides, judgeOf, Passes, Judged}
+use Rattle.verdict.specs.Verdicts.{lowestPort, noPort, Says, judgeOf, Judged}
 use Rattle.search.specs.declared.Outcome.{Outcome}
 use Rattle.search.specs.declared.Outcome.the-variants.{Holds, Fails}
 use Rattle.verdict.specs.declared.Verdict.{Verdict}
 use Rattle.verdict.specs.declared.Verdict.the-variants.{Right as IsRight, Wrong}
-use Rattle.verdict.specs.declared.Judgement.{Judgement}
 use Rattle.verdict.specs.declared.Judgement.the-variants.{Decided, Refused}
 
 -- ---- the lowest port

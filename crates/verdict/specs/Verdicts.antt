@@ -1,7 +1,7 @@
 -- The verdict on a claim: document 01, "What a binding shows" and refusal 10; and the order in which a recipe handed in is judged.
 use Prim.Native.Nat.{ℕ, _^_, _<_}
 use mathlib.Core.Path.{_≡_}
-use mathlib.Core.Bool.{Bool, true, not, Bool·beq}
+use mathlib.Core.Bool.{not, Bool·beq}
 use mathlib.Core.List.{[], _∷_}
 use lib.Dec.{eqb}
 use Rattle.words.specs.Choice.{if_then_else_}

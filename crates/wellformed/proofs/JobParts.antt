@@ -11,9 +11,9 @@ use lib.ListN.{length, drop, getD}
 use borrow.Author.Tests.{eq-eqb, ne-eqb, lt-ltb}
 use Rattle.words.specs.Field.{kindOf, contentOf}
 use Rattle.words.proofs.Choices.{and-join}
-use Rattle.words.specs.Kinds.{HEADER, PRICES, SOURCE, TARGET, RULE, isRecipe}
+use Rattle.words.specs.Kinds.{HEADER, PRICES, SOURCE, TARGET, RULE}
 use Rattle.sequence.specs.Limits.{mostSources, mostTargets, mostRules}
-use Rattle.reader.specs.Starts.{sourcesStart, targetsStart, rulesStart}
+use Rattle.reader.specs.Starts.{targetsStart, rulesStart}
 use Rattle.sequence.specs.Sequence.{jobSequence, inSequence}
 use Rattle.grammar.specs.Reading.{rises, after, functionIn, reading}
 use Rattle.sequence.specs.declared.File.the-variants.{AsJob}

@@ -1,5 +1,5 @@
 -- The words of a job that is accepted: one record of what they hold, by one induction over them.
-use mathlib.Core.Path.{_≡_, refl, sym, ap, subst}
+use mathlib.Core.Path.{_≡_, refl, subst}
 use mathlib.Core.List.{List}
 use Prim.Native.Nat.{ℕ, _+_, _-_, _*_, _<_, _≤_, _^_, min}
 use native.Mathlib.Omega.{arith}

@@ -12,7 +12,7 @@ use Rattle.words.specs.Field.{field, kindOf, contentOf}
 use Rattle.words.proofs.Choices.{and-join}
 use Rattle.words.proofs.Lists.{drop-next}
 use Rattle.recipe.specs.Fields.{sourceOf}
-use Rattle.words.specs.Kinds.{HEADER, BINDING, GLUE, isRecipe}
+use Rattle.words.specs.Kinds.{HEADER, BINDING, GLUE}
 use Rattle.sequence.specs.Limits.{mostBindings}
 use Rattle.sequence.specs.Sequence.{mappingSequence, inSequence}
 use Rattle.grammar.specs.Reading.{rises, wordFault, beginning, after, functionIn, reading}

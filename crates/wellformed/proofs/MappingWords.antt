@@ -14,7 +14,7 @@ use Rattle.recipe.specs.Fields.{sourceOf}
 use Rattle.words.specs.Kinds.{HEADER, BINDING, GLUE}
 use Rattle.words.specs.declared.Refusal.{Refusal}
 use Rattle.sequence.specs.Limits.{mostBindings, mostMappingWords}
-use Rattle.reader.specs.Starts.{bindingsStart, bindingPlace, gluePlace}
+use Rattle.reader.specs.Starts.{bindingsStart}
 use Rattle.sequence.specs.Sequence.{mappingSequence, inSequence}
 use Rattle.grammar.specs.Reading.{beginning, noted, after, functionIn, reading}
 use Rattle.reader.specs.Mapping.{mappingFacts, mappingEnded, mappingOf, WellFormedMapping}

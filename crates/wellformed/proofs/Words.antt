@@ -5,8 +5,8 @@ use mathlib.Core.List.{List}
 use Prim.Native.Nat.{ℕ, _+_, _<_, _≤_, _^_}
 use native.Mathlib.Omega.{arith}
 use lib.Dec.{eqb, ltb}
-use lib.ListN.{length, getD}
-use borrow.Author.Tests.{eq-eqb, ne-eqb, eqb-true, eqb-false, le-ltb, le-leb, leb-true, ltb-true, ltb-false, not-false}
+use lib.ListN.{getD}
+use borrow.Author.Tests.{eq-eqb, eqb-true, eqb-false, le-ltb, le-leb, leb-true, ltb-true, ltb-false, not-false}
 use Rattle.words.specs.Field.{field, kindOf, contentOf}
 use Rattle.words.specs.Kinds.{HEADER, PRICES, SOURCE, TARGET, RULE, BINDING, isRecipe}
 use Rattle.words.proofs.Choices.{either}

@@ -1,13 +1,12 @@
 -- The words written so far and those still to come.
-use mathlib.Core.Path.{_≡_, refl, sym, ap, _∙_}
+use mathlib.Core.Path.{_≡_, refl, ap, _∙_}
 use mathlib.Core.List.{List, [], _∷_, _++_}
-use Prim.Native.Nat.{ℕ, zero, suc, _+_, _*_, _^_, _≤_, _<_}
+use Prim.Native.Nat.{ℕ, zero, suc, _+_, _≤_, _<_}
 use native.Mathlib.Nat.{zero-add}
 use native.Mathlib.Omega.{arith}
 use borrow.Author.Tests.{lt-ltb, le-ltb}
-use lib.ListN.{length, drop, getD, set, length-append, length-set, drop-of-length-le}
-use lib.Seq.{sets, sets-eq, length-sets}
-use Rattle.words.specs.Choice.{if_then_else_}
+use lib.ListN.{length, drop, getD, set, length-append, drop-of-length-le}
+use lib.Seq.{sets, sets-eq}
 use Rattle.words.specs.Field.{wordOf}
 use Rattle.words.proofs.Lists.{drop-next}
 use Rattle.words.specs.Kinds.{HEADER, GLUE}

@@ -22,7 +22,7 @@ fn words_needed(sources: usize) -> usize
 }
 
 // A rule's recipe as a binding.
-fn binding_word(word: u32) -> u32
+pub fn binding_word(word: u32) -> u32
     ensures { λ r. ⌜ r ≡ W.bindingWord word ⌝ }
 {
     words::word_of(words::BINDING, words::content_of(word))

@@ -1,7 +1,7 @@
 -- `deqhulov::deqhulov_map` meets its contract.
 use Rattle.mapper.specs.Mapping.{paperOf}
 use Rattle.report.proofs.Telling.{told-of, report-fits}
-use mathlib.Core.Path.{_∙_, ap}
+use mathlib.Core.Path.{ap}
 use borrow.Author.Needs.{needs}
 use Rattle.deqhulov.proofs.deqhulov_map.Statement.{statement}
 use Rattle.deqhulov.proofs.deqhulov_map.Tie as tie

@@ -1,6 +1,5 @@
 -- `examples::words_in` meets its contract.
 use Prim.Native.Nat.{_-_, _≤_}
-use Rattle.text.specs.Text.{bytes}
 use borrow.Author.Needs.{needs}
 use lib.ListN.{length}
 use mathlib.Core.Path.{_≡_}
@@ -13,8 +12,8 @@ Inv-loop bytes words₀ hex₀ count₀ i₀ words hex count i = (count ≤ leng
 abbrev μ-loop : tie.MeasureT-loop
 μ-loop bytes words₀ hex₀ count₀ i₀ words hex count i = length bytes - i
 
-no-digits-requires : tie.Need-no-digits-requires Inv-loop μ-loop
-no-digits-requires c κs = search needs
+between-requires : tie.Need-between-requires Inv-loop μ-loop
+between-requires c κs = search needs
 
 loop-holds : tie.Need-loop-holds Inv-loop μ-loop
 loop-holds c = search needs
@@ -58,7 +57,7 @@ words-in-spec =
     (tie.spec
     Inv-loop
     μ-loop
-    no-digits-requires
+    between-requires
     loop-holds
     same-length
     returns

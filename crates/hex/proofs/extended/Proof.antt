@@ -1,4 +1,5 @@
 -- `hex::extended` meets its contract.
+use Rattle.hex.proofs.Hexadecimal.{digit-extended}
 use Rattle.hex.specs.Hex.{extended}
 use Rattle.words.proofs.Choices.{decide}
 use borrow.Author.Needs.{needs}
@@ -13,18 +14,11 @@ returns-2 : tie.Need-returns-2
 unfolding extended
 returns-2 c = search decide
 
-add-t4 : tie.Need-add-t4
-add-t4 c = search needs
-
-mul-t6 : tie.Need-mul-t6
-mul-t6 c = search needs
-
-add-t7 : tie.Need-add-t7
-add-t7 c = search needs
+with-digit-requires : tie.Need-with-digit-requires
+with-digit-requires c κs = search needs
 
 returns-3 : tie.Need-returns-3
-unfolding extended
-returns-3 c = search decide
+returns-3 c = search digit-extended
 
 pub extended-spec : {M : Type 1} → statement M
-extended-spec = tie.close (tie.spec returns returns-2 add-t4 mul-t6 add-t7 returns-3)
+extended-spec = tie.close (tie.spec returns returns-2 with-digit-requires returns-3)

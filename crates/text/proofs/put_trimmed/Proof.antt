@@ -1,6 +1,6 @@
 -- `text::put_trimmed` meets its contract.
 use Prim.Native.Nat.{_+_, _-_, _≤_}
-use Rattle.text.proofs.Putting.{byte-after, byte-text, end-after, end-text, space-after, space-text}
+use Rattle.text.proofs.Putting.{byte-after, byte-text, end-after, end-text, padding-after, padding-text}
 use Rattle.text.specs.Text.{bytes, trimmed}
 use borrow.Author.Needs.{needs}
 use lib.ListN.{drop, length}
@@ -29,7 +29,7 @@ same-length : tie.Need-same-length Inv-loop μ-loop
 same-length c = search needs
 
 returns : tie.Need-returns Inv-loop μ-loop
-returns c = record { ends = search space-after; put = search space-text }
+returns c = record { ends = search padding-after; put = search padding-text }
 
 add-out : tie.Need-add-out Inv-loop μ-loop
 add-out c = search needs

@@ -1,0 +1,2 @@
+pub mod Describe
+pub mod Room
