@@ -8,16 +8,21 @@ use Rattle.recipe.specs.Fields.{sourceOf, targetOf}
 use Rattle.reader.specs.Starts.{bindingsStart}
 use Rattle.text.specs.Text.{bytes, nameOf, hexadecimal, labelled}
 
--- no binding's line has more bytes, and no line of a glue count
+-- no binding has more bytes, no binding's line, and no line of a glue count
+abbrev pub mostBindingText : ℕ
+mostBindingText = 20
+
 abbrev pub mostBindingBytes : ℕ
 mostBindingBytes = 21
 
 abbrev pub mostGlueBytes : ℕ
 mostGlueBytes = 26
 
+unfoldable pub bindingText : ℕ → List ℕ
+bindingText w = nameOf (sourceOf w) ++ bytes " " ++ nameOf (targetOf w) ++ bytes " " ++ hexadecimal w
+
 unfoldable pub bindingLine : ℕ → List ℕ
-bindingLine w =
-    nameOf (sourceOf w) ++ bytes " " ++ nameOf (targetOf w) ++ bytes " " ++ hexadecimal w ++ bytes "\n"
+bindingLine w = bindingText w ++ bytes "\n"
 
 unfoldable pub glueLine : ℕ → List ℕ
 glueLine count = labelled (bytes "GLUE ") count ++ bytes "\n"

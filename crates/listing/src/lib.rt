@@ -10,17 +10,26 @@ pub const MOST_BINDING_BYTES: usize = 21;
 pub const MOST_GLUE_BYTES: usize = 26;
 
 // A binding: its source, its target or LV, and its word.
-pub fn binding_line(word: u32, out: &mut [u8], at: usize) -> usize
-    requires { ⌜ at + L.mostBindingBytes ≤ length (now out) ⌝ }
-    ensures short { λ r. ⌜ r ≤ at + L.mostBindingBytes ⌝ }
-    ensures text { λ r. ⌜ P.Puts (now (out .entry)) at (L.bindingLine word) (now (out .exit)) r ⌝ }
+pub fn put_binding(word: u32, out: &mut [u8], at: usize) -> usize
+    requires { ⌜ at + L.mostBindingText ≤ length (now out) ⌝ }
+    ensures short { λ r. ⌜ r ≤ at + L.mostBindingText ⌝ }
+    ensures text { λ r. ⌜ P.Puts (now (out .entry)) at (L.bindingText word) (now (out .exit)) r ⌝ }
 {
     let source = text::put_name(recipe::source_of(word), out, at);
     let gap = text::put(b" ", out, source);
     let target = text::put_name(recipe::target_of(word), out, gap);
     let space = text::put(b" ", out, target);
-    let digits = text::put_digits(word as u64, 16, 8, out, space);
-    text::put(b"\n", out, digits)
+    text::put_digits(word as u64, 16, 8, out, space)
+}
+
+// A binding's line.
+pub fn binding_line(word: u32, out: &mut [u8], at: usize) -> usize
+    requires { ⌜ at + L.mostBindingBytes ≤ length (now out) ⌝ }
+    ensures short { λ r. ⌜ r ≤ at + L.mostBindingBytes ⌝ }
+    ensures text { λ r. ⌜ P.Puts (now (out .entry)) at (L.bindingLine word) (now (out .exit)) r ⌝ }
+{
+    let end = put_binding(word, out, at);
+    text::put(b"\n", out, end)
 }
 
 // The glue count.

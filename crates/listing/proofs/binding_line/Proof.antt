@@ -1,16 +1,12 @@
 -- `listing::binding_line` meets its contract.
-use Rattle.text.proofs.Joined.{after-put, named}
+use Rattle.text.proofs.Joined.{after-put}
 use Rattle.listing.specs.Listing.{bindingLine}
-use Rattle.text.specs.Text.{hexadecimal}
 use borrow.Author.Needs.{needs}
 use Rattle.listing.proofs.binding_line.Statement.{statement}
 use Rattle.listing.proofs.binding_line.Tie as tie
 
-source-of-requires : tie.Need-source-of-requires
-source-of-requires c κs = search needs
-
-put-name-requires : tie.Need-put-name-requires
-put-name-requires c κs = search needs
+put-binding-requires : tie.Need-put-binding-requires
+put-binding-requires c κs = search needs
 
 slice-aggregate-put : tie.Need-slice-aggregate-put
 slice-aggregate-put c = search needs
@@ -18,48 +14,13 @@ slice-aggregate-put c = search needs
 put-requires : tie.Need-put-requires
 put-requires c κs = search needs
 
-target-of-requires : tie.Need-target-of-requires
-target-of-requires c κs = search needs
-
-put-name-requires-2 : tie.Need-put-name-requires-2
-put-name-requires-2 c κs = search needs
-
-slice-aggregate-put-2 : tie.Need-slice-aggregate-put-2
-slice-aggregate-put-2 c = search needs
-
-put-requires-2 : tie.Need-put-requires-2
-put-requires-2 c κs = search needs
-
-put-digits-requires : tie.Need-put-digits-requires
-put-digits-requires c κs = search needs
-
-slice-aggregate-put-3 : tie.Need-slice-aggregate-put-3
-slice-aggregate-put-3 c = search needs
-
-put-requires-3 : tie.Need-put-requires-3
-put-requires-3 c κs = search needs
-
 same-length : tie.Need-same-length
 same-length c = search needs
 
 returns : tie.Need-returns
-unfolding bindingLine hexadecimal
-returns c = (search needs, after-put (after-put (after-put (after-put (after-put (named _ _ _ _ _ _ (c .before .before .before .before .before .before .before .before .before .before .before .before .before .before .before .before .before .before .before .before .before .before .before .before .before .before .before .before .source-of .ensures) (c .before .before .before .before .before .before .before .before .before .before .before .before .before .before .before .before .before .before .before .before .before .before .before .before .before .before .put-name .ensures .1)) (c .before .before .before .before .before .before .before .before .before .before .before .before .before .before .before .before .before .before .before .before .before .put .ensures)) (named _ _ _ _ _ _ (c .before .before .before .before .before .before .before .before .before .before .before .before .before .before .before .before .before .before .target-of .ensures) (c .before .before .before .before .before .before .before .before .before .before .before .before .before .before .before .before .put-name2 .ensures .1))) (c .before .before .before .before .before .before .before .before .before .before .before .put2 .ensures)) (c .before .before .before .before .before .before .before .put-digits .ensures .1)) (c .before .before .put3 .ensures))
+unfolding bindingLine
+returns c = (search needs, search after-put)
 
 pub binding-line-spec : {M : Type 1} → statement M
 binding-line-spec =
-    tie.close
-    (tie.spec
-    source-of-requires
-    put-name-requires
-    slice-aggregate-put
-    put-requires
-    target-of-requires
-    put-name-requires-2
-    slice-aggregate-put-2
-    put-requires-2
-    put-digits-requires
-    slice-aggregate-put-3
-    put-requires-3
-    same-length
-    returns)
+    tie.close (tie.spec put-binding-requires slice-aggregate-put put-requires same-length returns)
