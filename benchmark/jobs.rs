@@ -1,6 +1,6 @@
 //! The recipes and jobs that are timed, the same in every run.
 
-use crate::library;
+use crate::library::{self, ASKS_BOOK};
 use crate::recipe::fields;
 use crate::yardstick::is_right;
 
@@ -48,6 +48,18 @@ fn job_of(width: u32, rules: impl Iterator<Item = u32>) -> Vec<u32> {
     words.extend((1..28).map(|function| 0x4000_0000 | function));
     words.extend(rules);
     words
+}
+
+/// The book's words, as print_book prints them.
+pub fn book() -> Vec<u32> {
+    let word = |line: &str| line.split_whitespace().nth(2).and_then(|digits| u32::from_str_radix(digits, 16).ok());
+    include_str!("../crates/print_book/stdout").lines().map(|line| word(line).expect("a line of print_book")).collect()
+}
+
+/// The same job, asking for the book.
+pub fn with_book(mut job: Vec<u32>) -> Vec<u32> {
+    job[0] |= ASKS_BOOK;
+    job
 }
 
 /// So many rules that are right at the width, the sources in turn, each with its own in turn.

@@ -3,6 +3,8 @@
 #[path = "../interface/deqhulov.rs"]
 mod deqhulov;
 
+pub use deqhulov::ASKS_BOOK;
+
 /// Document 01's number of a rule and a width: 0 right, 10 wrong, else a refusal.
 pub fn judge(word: u32, width: u32) -> u32 {
     deqhulov::judge(word, width).map_or_else(|refusal| refusal.number, |()| 0)

@@ -86,24 +86,24 @@ fn report_verdicts(sample: &[u32]) {
 }
 
 /// Maps a job into lent words, which must then hold what the yardstick's mapping has.
-fn compare_mapping(job: &[u32], unmappable: bool) {
+fn compare_mapping(job: &[u32], book: &[u32], unmappable: bool) {
     let mut lent = [LENT; 29];
     let number = library::map(job, &mut lent);
-    match mapper::map(job) {
+    match mapper::map(job, book) {
         Some(words) => assert!(!unmappable && number == 0 && lent[..] == words[..], "the mappings differ"),
         None => assert!(unmappable && number == 12 && lent == [LENT; 29], "the refusals differ"),
     }
 }
 
 /// Seconds to map a job: the library's and the yardstick's.
-fn mapping_times(job: &[u32], unmappable: bool) -> (f64, f64) {
-    compare_mapping(job, unmappable);
+fn mapping_times(job: &[u32], book: &[u32], unmappable: bool) -> (f64, f64) {
+    compare_mapping(job, book, unmappable);
     let ours = seconds(|| {
         let mut lent = [LENT; 29];
         black_box(library::map(black_box(job), &mut lent));
     });
     let plain = seconds(|| {
-        black_box(mapper::map(black_box(job)));
+        black_box(mapper::map(black_box(job), book));
     });
     (ours, plain)
 }
@@ -118,9 +118,20 @@ fn report_mappings(pool: &[u32]) {
     println!("{:>5} {:>28} {:>29}", "", "usable", "wrong");
     println!("width {:>10} {:>10} {:>6}  {:>10} {:>10} {:>6}", "library", "yardstick", "times", "library", "yardstick", "times");
     for width in WIDTHS {
-        let usable = mapping_times(&jobs::usable_job(width, MOST_RULES, pool), false);
-        let wrong = mapping_times(&jobs::wrong_job(width, MOST_RULES, pool), true);
+        let usable = mapping_times(&jobs::usable_job(width, MOST_RULES, pool), &[], false);
+        let wrong = mapping_times(&jobs::wrong_job(width, MOST_RULES, pool), &[], true);
         println!("{width:>5} {}  {}", milliseconds(usable), milliseconds(wrong));
+    }
+}
+
+/// A job of all sources and targets that asks for the book: without rules of its own, and with as many as there may be, all usable.
+fn report_book(pool: &[u32]) {
+    let book = jobs::book();
+    println!("\nMilliseconds to map a job of 27 sources and 27 targets at width 64 with the book of {} rules", book.len());
+    println!("rules {:>10} {:>10} {:>6}", "library", "yardstick", "times");
+    for count in [0, MOST_RULES] {
+        let job = jobs::with_book(jobs::usable_job(64, count, pool));
+        println!("{count:>5} {}", milliseconds(mapping_times(&job, &book, false)));
     }
 }
 
@@ -134,8 +145,8 @@ fn report_rules(pool: &[u32]) {
     println!("rules {:>17} {:>17} {:>17} {:>17}", "library, usable", "yardstick", "library, wrong", "yardstick");
     let mut first = None;
     for count in [32, 64, 128, 256, MOST_RULES] {
-        let (usable, plain) = mapping_times(&jobs::usable_job(64, count, pool), false);
-        let (wrong, plain_wrong) = mapping_times(&jobs::wrong_job(64, count, pool), true);
+        let (usable, plain) = mapping_times(&jobs::usable_job(64, count, pool), &[], false);
+        let (wrong, plain_wrong) = mapping_times(&jobs::wrong_job(64, count, pool), &[], true);
         let times = [usable, plain, wrong, plain_wrong];
         let base = *first.get_or_insert(times);
         let columns: Vec<String> = times.iter().zip(base).map(|(&time, first)| against(time, first)).collect();
@@ -186,6 +197,7 @@ fn main() {
     println!("Seed {:016X}. \"times\": the library's time as a multiple of the yardstick's.", jobs::SEED);
     report_verdicts(sample);
     report_mappings(&pool);
+    report_book(&pool);
     report_rules(&pool);
     report_widths(&sample[..2_000]);
     report_solver(sample);

@@ -1,5 +1,6 @@
 //! The mapper in plain Rust, unproved: document 01's choice over codes in use, a rule being judged last and only if it makes less glue.
 
+use crate::library::ASKS_BOOK;
 use crate::recipe::fields;
 use crate::yardstick::is_right;
 
@@ -85,18 +86,20 @@ fn glue(used: Usage, c: &Costs) -> u32 {
     c.n * (words + scratch) + bits + codes
 }
 
-/// The words of a well-formed job's mapping, or none where a source has no usable rule.
-pub fn map(job: &[u32]) -> Option<Vec<u32>> {
+/// The words of a well-formed job's mapping, or none where a source has no usable rule. The book's rules stand behind the job's own, if it
+/// asks for them.
+pub fn map(job: &[u32], book: &[u32]) -> Option<Vec<u32>> {
     let of_kind = |kind: u32| job.iter().copied().filter(move |word| word >> 28 == kind);
     let functions = |kind: u32| of_kind(kind).fold(0u32, |set, word| set | 1 << (word & 31));
     let c = Costs { n: job[0] & 127, a: job[1] >> 16 & 255, b: job[1] >> 8 & 255, m: job[1] & 255 };
     let targets = functions(4) | 1;
-    let rules = &job[2 + of_kind(3).count() + of_kind(4).count()..];
+    let own = &job[2 + of_kind(3).count() + of_kind(4).count()..];
+    let book = if job[0] & ASKS_BOOK != 0 { book } else { &[] };
     let mut used = Usage::default();
-    let mut words = vec![job[0]];
+    let mut words = vec![job[0] & !ASKS_BOOK];
     for source in of_kind(3) {
         let mut best: Option<(u32, u32)> = None;
-        for &rule in rules {
+        for &rule in own.iter().chain(book) {
             let recipe = fields(rule);
             if recipe.source != source & 31 || targets >> recipe.target & 1 == 0 {
                 continue;

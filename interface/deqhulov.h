@@ -24,6 +24,9 @@ extern "C" {
 #define DEQHULOV_FUNCTIONS 27
 #define DEQHULOV_WIDTHS 64
 
+/* Bit 7 of a job's header: the rules of the built-in book stand behind the job's own. */
+#define DEQHULOV_ASKS_BOOK 0x80u
+
 /* The ports: where each stands among the values of deqhulov_evaluate, and the first value of refusal 10. */
 enum deqhulov_port { DEQHULOV_O0 = 0, DEQHULOV_OCOUT = 1, DEQHULOV_OVF = 2, DEQHULOV_O1 = 3 };
 

@@ -15,6 +15,9 @@ mod c {
 pub const JOB_WORDS: usize = 568;
 pub const MAPPING_WORDS: usize = 29;
 
+/// Bit 7 of a job's header: the rules of the built-in book stand behind the job's own.
+pub const ASKS_BOOK: u32 = 0x80;
+
 /// The most values that come with an answer.
 const VALUES: usize = 4;
 

@@ -9,11 +9,11 @@ use testing::words::content;
 use testing::words::kind;
 
 // The number of the first refusal, 1 to 6, and its place; or 0, 0 and the facts that the words hold: the width, the three prices and
-// the numbers of sources, targets and rules; or the width, the number of bindings and the glue count.
+// the numbers of sources, targets and rules, and 1 where the book is asked for; or the width, the number of bindings and the glue count.
 pub struct Reading {
     pub number: u32,
     pub place: usize,
-    pub facts: [u32; 7],
+    pub facts: [u32; 8],
 }
 
 // The function of a source or target word, or of a recipe's source.
@@ -22,6 +22,11 @@ pub fn function(word: u32) -> u32 {
         return content(word);
     }
     fields_of(word).source
+}
+
+// The width in the header of a file, without the bit above it that asks for the book.
+pub fn width_of(words: &[u32]) -> u32 {
+    at(words, 0) % 128
 }
 
 // Kinds 2 to 5 stand in jobs only, 6 and 7 in mappings only.
@@ -51,15 +56,16 @@ fn count_of(words: &[u32], end: usize, of: u32) -> u32 {
     count
 }
 
-// 3 of any word, and 5 and 6 of a recipe.
-fn content_fault(word: u32) -> u32 {
+// 3 of any word, and 5 and 6 of a recipe. The header of a job has room for one bit above the width, that of a mapping has not.
+fn content_fault(of_job: bool, word: u32) -> u32 {
     let of = kind(word);
     let rest = content(word);
+    let room = if of_job { 256 } else { 128 };
     if (of == 5) | (of == 6) {
         return recipe_fault(word);
     }
     let bad = match of {
-        1 => (rest == 0) | (rest > 64),
+        1 => (rest >= room) | (rest % 128 == 0) | (rest % 128 > 64),
         2 => rest > 0xff_ffff,
         3 | 4 => (rest == 0) | (rest > 27),
         _ => false,
@@ -79,7 +85,7 @@ fn word_fault(of_job: bool, words: &[u32], i: usize) -> u32 {
     if count_of(words, i, of) >= most {
         return 2;
     }
-    let fault = content_fault(word);
+    let fault = content_fault(of_job, word);
     if fault == 3 {
         return 3;
     }
@@ -93,20 +99,20 @@ fn fault_at(number: u32, place: usize) -> Reading {
     Reading {
         number,
         place,
-        facts: [0; 7],
+        facts: [0; 8],
     }
 }
 
 // What words that are well formed hold.
 fn accepted(of_job: bool, words: &[u32]) -> Reading {
     let size = words.len();
-    let width = content(at(words, 0));
+    let width = width_of(words);
     if !of_job {
         let glue = content(at(words, wrapping_sub_usize(size, 1)));
         return Reading {
             number: 0,
             place: 0,
-            facts: [width, count_of(words, size, 6), glue, 0, 0, 0, 0],
+            facts: [width, count_of(words, size, 6), glue, 0, 0, 0, 0, 0],
         };
     }
     let prices = at(words, 1);
@@ -121,6 +127,7 @@ fn accepted(of_job: bool, words: &[u32]) -> Reading {
             count_of(words, size, 3),
             count_of(words, size, 4),
             count_of(words, size, 5),
+            at(words, 0) / 128 % 2,
         ],
     }
 }

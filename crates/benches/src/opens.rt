@@ -1,5 +1,6 @@
 // Jobs that open refuses, and some at the edge that it does not.
 use crate::calls;
+use crate::files::bench_with;
 use crate::files::same_bench;
 use crate::lines;
 use testing::names::name_at;
@@ -15,7 +16,7 @@ const SIZE_NAMES: [u8; 97] = *b"the printed job|no words|512 rules|a 513th|568 w
     |a header alone|a header and prices";
 
 // The printed job with one word set to another, by hexadecimal digits: two for its index, eight for the word.
-const CHANGES: [u64; 24] = [
+const CHANGES: [u64; 25] = [
     0x00_2001_0103,
     0x02_4000_0001,
     0x07_3000_001A,
@@ -24,6 +25,7 @@ const CHANGES: [u64; 24] = [
     0x00_1000_0041,
     0x00_1000_0000,
     0x00_1000_0090,
+    0x00_1000_0110,
     0x01_2101_0103,
     0x02_3000_0000,
     0x05_3000_001C,
@@ -42,22 +44,24 @@ const CHANGES: [u64; 24] = [
     0x08_5085_4801,
 ];
 
-const CHANGE_NAMES: [u8; 396] =
+const CHANGE_NAMES: [u8; 415] =
     *b"prices first|a target before any source|a source after a target|a binding for a rule\
-    |width 64|width 65|width 0|bit 7 of the header|bit 24 of the prices|source 0|source 28\
+    |width 64|width 65|width 0|the book asked for|bit 8 of the header|bit 24 of the prices|source 0|source 28\
     |target 28|bit 4 of a rule|left wiring 6|ADD from scratch\
     |a source twice|a source below the one before|a target twice\
     |a rule that reads TO1 of SUB|a rule without overflow|a rule with O1 besides\
     |2 before 3|3 before 4|5 before 6";
 
-// Opens a job; refused, it hands back the bench of zeros.
+// Opens a job; refused, it hands back the bench of zeros. The bench of the printed job is named too: it does not tell of the book.
 fn show(name: &[u8], words: &[u32]) {
     let opened = calls::open(words);
     let told = opened.answer;
     let bench = opened.bench;
     say::text(b"    ");
     lines::answer(name, told);
-    lines::whether(same_bench(&bench, &[0u32; 87]), b", zeros\n|\n");
+    lines::whether(same_bench(&bench, &[0u32; 87]), b", zeros|");
+    let of_printed = same_bench(&bench, &bench_with(16, 0));
+    lines::whether(of_printed, b", the printed job's bench\n|\n");
 }
 
 // AND, no targets, and AND from scratch as often as there is room.
@@ -93,14 +97,14 @@ fn show_changed(name: &[u8], job: [u32; 14], row: u64) {
 }
 
 fn show_change(i: usize) {
-    if i < 24 {
+    if i < 25 {
         show_changed(name_at(&CHANGE_NAMES, i), JOB, CHANGES[i]);
     }
 }
 
 fn show_changes() {
     let mut i = 0;
-    while i < 24 {
+    while i < 25 {
         show_change(i);
         i += 1;
     }

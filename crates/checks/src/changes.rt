@@ -18,6 +18,8 @@ const JOB_BITS: u32 = 448;
 
 const BITS: u32 = 640;
 
+const BOOK_BIT: u32 = 7;
+
 fn rightly_priced(both: [u32; 20]) -> [u32; 20] {
     let mut words = both;
     let count = count_for(first(&both, MIDDLE), after(&both, MIDDLE));
@@ -152,8 +154,17 @@ fn a_rule_bound(n: u32) -> Tallies {
     all
 }
 
-pub const NAMES: [u8; 106] = *b"as printed|a bit of the mapping changed|a bit of the job changed\
-    |cut short|a binding left out|a rule bound";
+// The bit that asks for the book, in the header of neither, of the job, of the mapping and of both.
+fn the_book_asked_for(n: u32) -> Tallies {
+    let both = printed_at(n);
+    let asked = turned(both, BOOK_BIT);
+    let of_job = with_both(with_both(none(), &both), &asked);
+    let of_mapping = with_both(of_job, &turned(both, JOB_BITS + BOOK_BIT));
+    with_both(of_mapping, &turned(asked, JOB_BITS + BOOK_BIT))
+}
+
+pub const NAMES: [u8; 125] = *b"as printed|a bit of the mapping changed|a bit of the job changed\
+    |cut short|a binding left out|a rule bound|the book asked for";
 
 // By the index of its name; then two bits changed: of the mapping, and one of each.
 pub fn group(which: u32, n: u32) -> Tallies {
@@ -164,7 +175,8 @@ pub fn group(which: u32, n: u32) -> Tallies {
         3 => cut_short(n),
         4 => a_binding_left_out(n),
         5 => a_rule_bound(n),
-        6 => two_bits(n, JOB_BITS, BITS),
+        6 => the_book_asked_for(n),
+        7 => two_bits(n, JOB_BITS, BITS),
         _ => two_bits(n, 0, JOB_BITS),
     }
 }

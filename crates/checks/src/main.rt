@@ -26,15 +26,15 @@ fn report_change(which: u32, n: u32) {
 
 fn report_one_change() {
     let mut i: u32 = 0;
-    while i < 24 {
-        report_change(i % 6, WIDTHS[(i / 6) as usize]);
+    while i < 28 {
+        report_change(i % 7, WIDTHS[(i / 7) as usize]);
         i += 1;
     }
 }
 
 fn report_two_changes(n: u32) {
-    report(b"two bits of the mapping changed", n, changes::group(6, n));
-    report(b"a bit of each changed", n, changes::group(7, n));
+    report(b"two bits of the mapping changed", n, changes::group(7, n));
+    report(b"a bit of each changed", n, changes::group(8, n));
 }
 
 fn report_random() {

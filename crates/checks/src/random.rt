@@ -1,5 +1,5 @@
-// Random jobs with most targets, and mappings of most of their sources, each binding right but for some that have a bit turned. Now
-// and then a source is left out, another is added, the width is another, or the count is.
+// Random jobs with most targets, half of which ask for the book, and mappings of most of their sources, each binding right but for some
+// that have a bit turned. Now and then a source is left out, another is added, the width is another, or the count is.
 use crate::compare::Tallies;
 use crate::compare::compared;
 use crate::compare::none;
@@ -96,8 +96,9 @@ fn begun(n: u32) -> File {
 
 fn job_of(n: u32, random: u64) -> File {
     let prices = 0x2000_0000 | (next(random) % 0x100_0000) as u32;
+    let asked = if seldom(random, 2048, 2) { 128 } else { 0 };
     with_table(
-        with_table(with(begun(n), true, prices), 3, random),
+        with_table(with(begun(n | asked), true, prices), 3, random),
         4,
         random,
     )

@@ -2,12 +2,12 @@
 use mathlib.Core.Path.{_≡_, refl, sym, ap, _∙_}
 use mathlib.Core.Bool.{Bool, true, false}
 use mathlib.Core.List.{List, [], _∷_, _++_}
-use Prim.Native.Nat.{ℕ, _+_, _≤_, _<_}
+use Prim.Native.Nat.{ℕ, _+_, _-_, _≤_, _<_}
 use native.Mathlib.Numerals.{add-one}
 use native.Mathlib.Omega.{arith}
 use lib.Bits.{bitOr}
-use lib.ListN.{length, take, drop, getD, set, drop-of-length-le}
-use lib.Seq.{take-suc-set}
+use lib.ListN.{length, take, drop, getD, set, drop-of-length-le, length-append, List·getD-append}
+use lib.Seq.{take-suc-set, getD-append-add}
 use Rattle.words.specs.Choice.{if_then_else_}
 use Rattle.words.specs.Field.{sourceFunction}
 use Rattle.words.proofs.Lists.{drop-next}
@@ -16,11 +16,33 @@ use Rattle.table.specs.Parts.{Terms, termsWith}
 use Rattle.usage.specs.Sets.{usage, usageOf}
 use Rattle.usage.proofs.Joining.{usage-more}
 use Rattle.tally.proofs.Joining.{glue-more}
-use Rattle.best.specs.Best.{noRule, bestOf}
+use Rattle.best.specs.Best.{noRule, better, bestOf}
 use Rattle.choice.specs.Choose.{Choice, Mapped, Unmappable, withRule, choose}
 use Rattle.best.specs.Beside.{besides}
 use Rattle.best.specs.declared.Best.{Best}
-use Rattle.best.proofs.Choosing.{best-same}
+use Rattle.best.proofs.Choosing.{best-same, one-rule-more}
+
+-- ---- the book's rules behind the job's own
+
+module _ (rules book : List ℕ) (i : ℕ) where
+  pub of-the-job : i < length rules → getD rules i 0 ≡ getD (rules ++ book) i 0
+  of-the-job h = sym (List·getD-append rules book 0 i h)
+
+  pub of-the-book : length rules ≤ i → getD book (i - length rules) 0 ≡ getD (rules ++ book) i 0
+  of-the-book h =
+      let e : i ≡ length rules + (i - length rules) = omega arith in
+      sym (ap (λ (x : ℕ). getD (rules ++ book) x 0) e ∙ getD-append-add rules book (i - length rules) 0)
+
+  module _ (count : ℕ) (ec : count ≡ length rules + length book) where
+    pub no-rule-left : count ≤ i → length (rules ++ book) ≤ i
+    no-rule-left h = omega (arith, length-append rules book)
+
+    pub next-rule : (t : Terms) (f : ℕ) (g : ℕ → ℕ) (best whole next : Best) (w : ℕ) → i < count → w ≡ getD (rules ++ book) i 0
+        → bestOf g t f best (drop i (rules ++ book)) ≡ whole → next ≡ better g t f best w → bestOf g t f next (drop (i + 1) (rules ++ book)) ≡ whole
+    next-rule t f g best whole next w h ew e u =
+        one-rule-more t f g (rules ++ book) best whole i e next (omega (arith, length-append rules book)) (u ∙ ap (better g t f best) ew)
+
+-- ---- a source
 
 module _ (j : Job) (ss ts rules sources words : List ℕ) (i used : ℕ) (whole : Choice)
     (eu : used ≡ usage (take i words)) (e : choose (termsWith j ss ts) rules (take i words) (drop i sources) ≡ whole) where

@@ -1,7 +1,8 @@
 -- How the code keeps its choice. Nobody has to believe this: Choose.antt says what the choice is.
-use Prim.Native.Nat.{ℕ, _≤_}
+use Prim.Native.Nat.{ℕ, _+_, _^_, _<_, _≤_}
 use mathlib.Core.Path.{_≡_}
 use mathlib.Core.Bool.{true}
+use mathlib.Core.List.{List}
 use lib.ListN.{length, take}
 use Rattle.words.specs.Choice.{if_then_else_}
 use Rattle.bits.specs.Asked.{Width}
@@ -20,6 +21,10 @@ pub record KeptChoice (c : Chosen) (sources : ℕ) (choice : Choice) : Type 0 wh
   pub same : keptAs c sources ≡ choice
   pub size : length (c .words) ≡ mostSources
   pub uses : c .mapped ≡ true → c .used ≡ usage (take sources (c .words))
+
+-- what the choice asks of its caller besides: so few rules, the book's included, that counting them does not wrap
+abbrev pub FewRules : List ℕ → List ℕ → Type 0
+FewRules rules book = length rules + length book < 2 ^ 32
 
 -- what the writing of a choice asks of its caller
 pub record WritableChoice (job : Job) (c : Chosen) : Type 0 where

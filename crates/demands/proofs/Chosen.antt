@@ -1,42 +1,37 @@
 -- The mapper's choice is one usable rule for each source.
-use mathlib.Core.Path.{_≡_, sym, _∙_}
+use mathlib.Core.Path.{_≡_, subst, _∙_}
 use mathlib.Core.Bool.{true}
 use mathlib.Core.List.{List, []}
-use Prim.Native.Nat.{ℕ, _+_, _<_}
+use Prim.Native.Nat.{ℕ, _<_}
 use native.Mathlib.Nat.{zero-add}
 use native.Mathlib.Omega.{arith}
 use lib.Dec.{eqb}
-use lib.ListN.{length, getD, length-drop}
-use lib.Seq.{getD-drop}
+use lib.ListN.{length, getD}
 use borrow.Author.Tests.{eqb-true}
 use Rattle.words.specs.Kinds.{RULE}
 use Rattle.words.proofs.Choices.{and-split}
 use Rattle.recipe.specs.Fields.{sourceOf}
 use Rattle.binding.specs.Right.{isRight}
 use Rattle.reader.specs.Job.{WellFormedJob}
-use Rattle.reader.specs.Starts.{rulesStart}
 use Rattle.reader.specs.declared.Job.{Job}
 use Rattle.wellformed.proofs.Parts.{RecipeWord}
-use Rattle.wellformed.proofs.JobWords.{JobFacts, well-formed}
-use Rattle.table.specs.Parts.{sourcesOf, targetsOf, rulesOf, termsOf}
+use Rattle.table.specs.Parts.{sourcesOf, targetsOf, termsOf}
 use Rattle.table.specs.Table.{hasTarget}
 use Rattle.claims.specs.Claim.{claimIn}
 use Rattle.best.specs.Best.{serves, usable}
 use Rattle.choice.specs.Choose.{Mapped}
-use Rattle.mapper.specs.Mapping.{choiceOf}
+use Rattle.mapper.specs.Mapping.{rulesFor, choiceOf}
 use Rattle.mapper.proofs.Answering.{sources-length}
 use Rattle.demands.specs.Mapped.{sourceAt}
 use Rattle.demands.specs.Choice.{LeastAt}
 use Rattle.demands.proofs.Parts.{source-at}
+use Rattle.demands.proofs.Rules.{each-rule}
 use Rattle.demands.proofs.Choice.{Chosen, mapped-chosen}
 use Rattle.demands.proofs.Written.{Bindable}
 
 module _ (ws : List ℕ) (job : Job) (e : WellFormedJob ws job) (bound : List ℕ) (eb : choiceOf ws job ≡ Mapped bound) where
-  facts : JobFacts ws job
-  facts = well-formed ws job e
-
-  chosen : Chosen (termsOf ws job) (rulesOf ws job) [] (sourcesOf ws job) bound
-  chosen = mapped-chosen (termsOf ws job) (rulesOf ws job) (sourcesOf ws job) [] bound eb
+  chosen : Chosen (termsOf ws job) (rulesFor ws job) [] (sourcesOf ws job) bound
+  chosen = mapped-chosen (termsOf ws job) (rulesFor ws job) (sourcesOf ws job) [] bound eb
 
   pub one-each : length bound ≡ job .sources
   one-each = chosen .size ∙ zero-add (length (sourcesOf ws job)) ∙ sources-length ws job e
@@ -63,10 +58,7 @@ module _ (ws : List ℕ) (job : Job) (e : WellFormedJob ws job) (bound : List �
         (isRight (claimIn (sourcesOf ws job) (targetsOf ws job) (getD bound k 0)) (job .width)) (serves-source .1)
 
     pub chosen-rule : RecipeWord RULE (getD bound k 0)
-    chosen-rule =
-        let l = least-at in
-        let at : getD ws (rulesStart job + l .index) 0 ≡ getD bound k 0 = sym (getD-drop (rulesStart job) ws (l .index) 0) ∙ l .is-rule in
-        rw (← at) (facts .rule-words (l .index) (omega (arith, l .within, length-drop (rulesStart job) ws, facts .size)))
+    chosen-rule = let l = least-at in subst (RecipeWord RULE) (l .is-rule) (each-rule ws job e (l .index) (l .within))
 
   pub chosen-bindable : Bindable ws job bound
   chosen-bindable =

@@ -19,10 +19,10 @@ use Rattle.sequence.specs.Limits.{mostSources}
 use Rattle.reader.specs.Job.{WellFormedJob}
 use Rattle.reader.specs.declared.Job.{Job}
 use Rattle.reader.specs.declared.Mapping.{Mapping}
-use Rattle.table.specs.Parts.{sourcesOf, rulesOf, termsOf}
+use Rattle.table.specs.Parts.{sourcesOf, termsOf}
 use Rattle.writer.specs.Write.{wordsNeeded}
 use Rattle.choice.specs.Choose.{Mapped}
-use Rattle.mapper.specs.Mapping.{choiceOf, chosenWords, answerOf, lentAfterMap}
+use Rattle.mapper.specs.Mapping.{rulesFor, choiceOf, chosenWords, answerOf, lentAfterMap}
 use Rattle.mapper.specs.Mapping as mapper
 use Rattle.mapper.proofs.Answering.{sources-length}
 use Rattle.checker.specs.Check.{Checks}
@@ -91,7 +91,7 @@ module _ (ws lent : List ℕ) where
       let e = m .well-formed in
       let n = sources-length ws job e in
       let c =
-      all-served (termsOf ws job) (rulesOf ws job) (sourcesOf ws job) []
+      all-served (termsOf ws job) (rulesFor ws job) (sourcesOf ws job) []
       (λ k l. at-served ws job k (omega arith) (m .each-served k (omega arith))) in
       let w = mapped-writes ws lent job e (c .0) (c .1) h in
       record { job = job; well-formed = e; bound = c .0; choice = c .1; enough = h; answer = w .0; lent-after = w .1 }

@@ -1,4 +1,3 @@
-pub mod EveryWidth
 pub mod Starred
 pub mod Parts
 pub mod Firsts
@@ -8,6 +7,7 @@ pub mod Papers
 pub mod Accepting
 pub mod Content
 pub mod Choice
+pub mod Rules
 pub mod Written
 pub mod Chosen
 pub mod Accepted

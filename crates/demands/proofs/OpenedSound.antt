@@ -85,6 +85,7 @@ module _ (ws : List ℕ) (job : Job) (e : WellFormedJob ws job) where
     sources = length (sourcesOf ws job);
     targets = length (targetsOf ws job);
     rules = 0;
+    book = false;
   })
   opened-job =
       rw words-of

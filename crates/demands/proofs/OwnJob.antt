@@ -89,7 +89,9 @@ module _ (b : Bench) (h : Shaped b) (s : soundBench b ≡ true) where
     facts = well-formed words job (o .reads)
 
     same-width : job .width ≡ t .width
-    same-width = sym (facts .header) ∙ content-of-laid HEADER (t .width) (omega (arith, sound .tables .width .most))
+    same-width =
+        let most = sound .tables .width .most in
+        omega (arith, facts .header, content-of-laid HEADER (t .width) (omega (arith, most)), most)
 
     laid-prices : laidPrices (job .prices) ≡ laidPrices (t .prices)
     laid-prices =

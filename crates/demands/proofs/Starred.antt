@@ -19,7 +19,7 @@ use Rattle.output.specs.Output.{outputsShow}
 use Rattle.binding.specs.Right.{Agrees, every, agrees, isRightFor, isRight, claimOf}
 use Rattle.binding.proofs.Tests.{same-ports, right-test}
 use Rattle.demands.specs.Starred.{Case, _width_left_right_carry_shows_ocout_ovf_o1_, _right-at-every-width, _right-at_, _wrong-at_left_right_, Means, AllHold, none, more, starred}
-use Rattle.demands.proofs.EveryWidth.{rightAlways, right-always}
+use Rattle.book.proofs.Closed.{rightAlways, always-right}
 
 -- ---- the test
 
@@ -76,7 +76,7 @@ differs w n a b true true e f h = absurd (false≢true h)
 
 row-means : (k : Case) → holds k ≡ true → Means k
 row-means (f width n left a right b carry c shows o0 ocout co ovf v o1 t) e = is-accepted (paperOf (evaluation f n a b c)) (o0 ∷ co ∷ v ∷ t ∷ []) e
-row-means (w right-at-every-width) e = λ n h. right-always w e n (positive n h)
+row-means (w right-at-every-width) e = λ n h. always-right w e n (positive n h)
 row-means (w right-at n) e = right-test (claimOf w .source) (claimOf w .recipe) n .0 e
 row-means (w wrong-at n left a right b) e = differs w n a b (agreesAt w n a b false) (agreesAt w n a b true) refl refl e
 

@@ -10,7 +10,7 @@ use lib.Dec.{eqb, ltb}
 use lib.ListN.{length, take, drop, replicate}
 use borrow.Author.Tests.{eqb-false, lt-leb, le-ltb}
 use Rattle.words.specs.Choice.{if_then_else_}
-use Rattle.words.specs.Paper.{Paper, refusal, accepted, refused}
+use Rattle.words.specs.Paper.{Paper, refusal, accepted, refused, sourcePlace}
 use Rattle.bits.specs.Bits.{num}
 use Rattle.bits.specs.declared.Ports.{Ports}
 use Rattle.alu.specs.Function.{functionOf, ports}
@@ -23,9 +23,10 @@ use Rattle.reader.specs.Job.{WellFormedJob}
 use Rattle.reader.specs.Mapping.{mappingOf}
 use Rattle.reader.specs.Mapping as reader
 use Rattle.reader.specs.declared.Job.{Job}
+use Rattle.reader.specs.declared.JobRead.the-variants.{Accepted}
 use Rattle.reader.specs.declared.Mapping.{Mapping}
 use Rattle.wellformed.proofs.Numbers.{job-number}
-use Rattle.table.specs.Parts.{sourcesOf, rulesOf, bindingsOf, termsOf}
+use Rattle.table.specs.Parts.{sourcesOf, targetsOf, bindingsOf, termsOf}
 use Rattle.fitting.specs.Pair.{pairOf}
 use Rattle.fitting.specs.declared.Fit.{Fit}
 use Rattle.pricer.specs.Pricing.{counted, glueOf, pricingOf}
@@ -34,7 +35,7 @@ use Rattle.writer.specs.Write.{bindingWords, wordsNeeded, writtenOf}
 use Rattle.writer.specs.declared.Written.the-variants as written
 use Rattle.writer.proofs.Writing.{bindings-length}
 use Rattle.choice.specs.Choose.{Choice, Mapped, Unmappable}
-use Rattle.mapper.specs.Mapping.{choiceOf, chosenWords, answerOf}
+use Rattle.mapper.specs.Mapping.{rulesFor, choiceOf, chosenWords, answerOf}
 use Rattle.mapper.specs.Mapping as mapper
 use Rattle.mapper.proofs.Answering.{sources-length}
 use Rattle.checker.specs.Check.{Checks}
@@ -48,8 +49,9 @@ use Rattle.bench.specs.declared.Answer.the-variants.{Refused}
 use Rattle.bench.specs.declared.After.{After}
 use Rattle.bench.proofs.Pricing.{empty-price}
 use Rattle.demands.specs.Mapped.{sourceAt, Fitting, Bound, NamesUnbound}
-use Rattle.demands.specs.Choice.{ServedAt, LeastAt, LowestUnserved, Maps}
+use Rattle.demands.specs.Choice.{Served, BookHas, ServedAt, LeastAt, LowestUnserved, Maps}
 use Rattle.demands.specs.Benches.{BenchOf, Adds, ReadsBack, LowestUnbound}
+use Rattle.demands.proofs.Rules.{book-serves}
 use Rattle.demands.proofs.Choice.{chosen-served, mapped-chosen}
 use Rattle.demands.proofs.Chosen.{least-at, chosen-bindable}
 use Rattle.demands.proofs.Sources.{served-at, unmappable-lowest}
@@ -93,8 +95,8 @@ pub chosen-each : (ws : List ℕ) (job : Job) → WellFormedJob ws job → (boun
 chosen-each ws job e bound c k h =
     let size = sources-length ws job e in
     served-at ws job k h
-    (chosen-served (termsOf ws job) (rulesOf ws job) (sourcesOf ws job) bound
-    (mapped-chosen (termsOf ws job) (rulesOf ws job) (sourcesOf ws job) [] bound c) k (omega arith))
+    (chosen-served (termsOf ws job) (rulesFor ws job) (sourcesOf ws job) bound
+    (mapped-chosen (termsOf ws job) (rulesFor ws job) (sourcesOf ws job) [] bound c) k (omega arith))
 
 module _ (ws lent : List ℕ) where
   -- "A function is unmappable only if no usable rule for it is in the job": it is the lowest such function,
@@ -120,6 +122,19 @@ module _ (ws lent : List ℕ) where
       by-choice : (c : Choice) → choiceOf ws job ≡ c → (place : ℕ) × (mapper.paperOf (answerOf ws lent) ≡ refused 12 place)
       by-choice (Mapped bound) c = absurd (unserved (chosen-each ws job e bound c k h))
       by-choice (Unmappable place) c = (place, unmappable-answer ws lent job e place c)
+
+  -- "Header bit 7 of a job .. places the book after the job's own rules; the mapper's choice and refusal 12 then range over both": with it, a
+  -- source for which the book has a rule from scratch or from a target of the job is never the one that 12 names, at any width.
+  pub book-keeps-from-12 : (job : Job) → WellFormedJob ws job → job .book ≡ true → (k : ℕ) → k < job .sources
+      → BookHas (targetsOf ws job) (sourceAt ws k) → mapper.paperOf (answerOf ws lent) ≡ refused 12 (sourcePlace (sourceAt ws k)) → ⊥
+  book-keeps-from-12 job e asked k h b a =
+      let named = unmappable-names-the-lowest (sourcePlace (sourceAt ws k)) a in
+      let same : named .0 ≡ job = read-once (named .0) (named .1 .0) in
+      let low = subst (λ (x : Job). LowestUnserved ws x (sourcePlace (sourceAt ws k))) same (named .1 .1) in
+      low .unserved (subst (λ (f : ℕ). Served (termsOf ws job) f (rulesFor ws job)) (sym (low .is-place)) (book-serves ws job e asked k b))
+    where
+      read-once : (other : Job) → WellFormedJob ws other → other ≡ job
+      read-once other u = let z : Accepted other ≡ Accepted job = sym u ∙ e in cc
 
   module _ (m : Maps ws lent) where
     -- each chosen rule is a rule of the job, usable, and no usable rule gives less at its turn, none earlier gives as little

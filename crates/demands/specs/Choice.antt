@@ -7,13 +7,16 @@ use mathlib.Core.Bool.{true}
 use mathlib.Core.List.{List, [], _∷_, _++_}
 use lib.ListN.{length, take, drop, getD}
 use Rattle.words.specs.Paper.{sourcePlace, accepted}
+use Rattle.recipe.specs.Fields.{sourceOf}
+use Rattle.book.specs.Book.{book}
 use Rattle.reader.specs.Job.{WellFormedJob}
 use Rattle.reader.specs.declared.Job.{Job}
-use Rattle.table.specs.Parts.{rulesOf, Terms, termsOf}
+use Rattle.table.specs.Parts.{Terms, termsOf}
+use Rattle.table.specs.Table.{hasTarget}
 use Rattle.writer.specs.Write.{wordsNeeded}
 use Rattle.best.specs.Best.{serves}
 use Rattle.choice.specs.Choose.{Mapped, withRule}
-use Rattle.mapper.specs.Mapping.{choiceOf, chosenWords, answerOf, lentAfterMap, paperOf}
+use Rattle.mapper.specs.Mapping.{rulesFor, choiceOf, chosenWords, answerOf, lentAfterMap, paperOf}
 use Rattle.demands.specs.Mapped.{sourceAt}
 
 -- some rule of the list is usable for the function
@@ -31,16 +34,23 @@ pub record Least (glueWith : ℕ → ℕ) (t : Terms) (f : ℕ) (rules : List �
   pub none-less : (i : ℕ) → i < length rules → serves t f (getD rules i 0) ≡ true → glueWith w ≤ glueWith (getD rules i 0)
   pub none-earlier : (i : ℕ) → i < index → serves t f (getD rules i 0) ≡ true → glueWith w < glueWith (getD rules i 0)
 
+-- the book has a rule for the function, from scratch or from one of these targets
+pub record BookHas (targets : List ℕ) (f : ℕ) : Type 0 where
+  pub index : ℕ
+  pub within : index < length book
+  pub its-source : sourceOf (getD book index 0) ≡ f
+  pub has-target : hasTarget targets (getD book index 0) ≡ true
+
 -- ---- of a job's k-th source
 
--- some rule of the job is usable for it
+-- some rule of the job or, where it asks for it, of the book is usable for it
 abbrev pub ServedAt : List ℕ → Job → ℕ → Type 0
-ServedAt ws job k = Served (termsOf ws job) (sourceAt ws k) (rulesOf ws job)
+ServedAt ws job k = Served (termsOf ws job) (sourceAt ws k) (rulesFor ws job)
 
 -- of the rules bound, one for each source, its rule makes the least glue with those bound before it
 abbrev pub LeastAt : List ℕ → Job → List ℕ → ℕ → Type 0
 LeastAt ws job bound k =
-    Least (withRule (termsOf ws job) (take k bound)) (termsOf ws job) (sourceAt ws k) (rulesOf ws job) (getD bound k 0)
+    Least (withRule (termsOf ws job) (take k bound)) (termsOf ws job) (sourceAt ws k) (rulesFor ws job) (getD bound k 0)
 
 -- "12. Unmappable; place: lowest function without a usable rule." It is the first of the sources without one.
 pub record LowestUnserved (ws : List ℕ) (job : Job) (place : ℕ) : Type 0 where

@@ -12,7 +12,26 @@ use Rattle.words.specs.Field.{field, kindOf, contentOf}
 use Rattle.words.specs.Kinds.{HEADER, PRICES, SOURCE, TARGET, RULE, GLUE}
 use Rattle.text.specs.Text.{Puts, bytes, nameOf, labelled}
 use Rattle.text.proofs.Joined.{after-put}
-use Rattle.describe.specs.Describe.{recipeText, pricesText, wordText}
+use Rattle.describe.specs.Describe.{recipeText, headerText, pricesText, wordText}
+use Rattle.describe.proofs.Parts.{nothing-put}
+
+-- ---- a header
+
+pub width-fits : (n : ℕ) → bitAnd n 127 < 2 ^ 64
+width-fits n = omega (arith, mask-lt n 7)
+
+module _ (w : ℕ) {o p : List ℕ} {a b : ℕ} (f : Puts o a (labelled (bytes "header: width ") (bitAnd w 127)) p b) where
+  width-put : Puts o a (labelled (bytes "header: width ") (field w 0 7)) p b
+  width-put = subst (λ (n : ℕ). Puts o a (labelled (bytes "header: width ") n) p b) (rw div-one (and-mask w 7)) f
+
+  pub plain-header : (bitAnd (w / 2 ^ 7) 1 ≡ 1 → ⊥) → Puts o a (headerText w) p b
+  unfolding headerText
+  plain-header h =
+      rw (ne-eqb (field w 7 1) 1 (λ e. h (and-mask (w / 2 ^ 7) 1 ∙ e))) (after-put width-put (nothing-put p b))
+
+  pub book-header : {q : List ℕ} {c : ℕ} → bitAnd (w / 2 ^ 7) 1 ≡ 1 → Puts p b (bytes ", with the book") q c → Puts o a (headerText w) q c
+  unfolding headerText
+  book-header h g = rw (eq-eqb (field w 7 1) 1 (sym (and-mask (w / 2 ^ 7) 1) ∙ h)) (after-put width-put g)
 
 -- ---- prices
 
@@ -47,9 +66,9 @@ module _ (w k n : ℕ) (ek : k ≡ kindOf w) (en : n ≡ contentOf w) {o q : Lis
   function-named : (label : List ℕ) → Puts o a (label ++ nameOf n) q e → Puts o a (label ++ nameOf (contentOf w)) q e
   function-named label f = subst (λ (m : ℕ). Puts o a (label ++ nameOf m) q e) en f
 
-  pub header-put : k ≡ HEADER → Puts o a (labelled (bytes "header: width ") n) q e → Puts o a (wordText w) q e
+  pub header-put : k ≡ HEADER → Puts o a (headerText w) q e → Puts o a (wordText w) q e
   unfolding wordText
-  header-put h f = rw (is w k ek h) (numbered (bytes "header: width ") f)
+  header-put h f = rw (is w k ek h) f
 
   module _ (no1 : k ≡ HEADER → ⊥) where
     pub prices-word : k ≡ PRICES → Puts o a (pricesText w) q e → Puts o a (wordText w) q e

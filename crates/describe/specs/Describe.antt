@@ -54,6 +54,10 @@ recipeText w = nameOf (sourceOf w) ++ (if fromScratch w then scratchText w else 
 
 -- ---- a word of any kind
 
+-- request #101: "Header bit 7 of a job". Whether a word stands in a job, only its file tells
+unfoldable pub headerText : ℕ → List ℕ
+headerText w = labelled (bytes "header: width ") (field w 0 7) ++ (if eqb (field w 7 1) 1 then bytes ", with the book" else [])
+
 unfoldable pub pricesText : ℕ → List ℕ
 pricesText w =
     labelled (bytes "prices: inverter ") (field w 16 8)
@@ -62,7 +66,7 @@ pricesText w =
 
 unfoldable pub wordText : ℕ → List ℕ
 wordText w =
-    if eqb (kindOf w) HEADER then labelled (bytes "header: width ") (contentOf w)
+    if eqb (kindOf w) HEADER then headerText w
     else if eqb (kindOf w) PRICES then pricesText w
     else if eqb (kindOf w) SOURCE then bytes "source " ++ nameOf (sourceFunction w)
     else if eqb (kindOf w) TARGET then bytes "target " ++ nameOf (targetFunction w)

@@ -13,6 +13,18 @@ ghost use Rattle.text.specs.Text as P;
 ghost use Rattle.describe.specs.Describe as D;
 ghost use Rattle.describe.specs.Room as M;
 
+fn put_header(word: u32, out: &mut [u8], at: usize) -> usize
+    requires { ⌜ at + M.mostKind ≤ length (now out) ⌝ }
+    ensures short { λ r. ⌜ r ≤ at + M.mostKind ⌝ }
+    ensures text { λ r. ⌜ P.Puts (now (out .entry)) at (D.headerText word) (now (out .exit)) r ⌝ }
+{
+    let width = text::put_labelled(b"header: width ", (word & 0x7f) as u64, out, at);
+    if (word >> 7) & 1 != 1 {
+        return width;
+    }
+    text::put(b", with the book", out, width)
+}
+
 fn put_prices(word: u32, out: &mut [u8], at: usize) -> usize
     requires { ⌜ at + M.mostKind ≤ length (now out) ⌝ }
     ensures short { λ r. ⌜ r ≤ at + M.mostKind ⌝ }
@@ -42,7 +54,7 @@ pub fn put_kind(word: u32, out: &mut [u8], at: usize) -> usize
     let kind = words::kind_of(word);
     let content = words::content_of(word);
     if kind == HEADER {
-        return text::put_labelled(b"header: width ", content as u64, out, at);
+        return put_header(word, out, at);
     }
     if kind == PRICES {
         return put_prices(word, out, at);

@@ -115,6 +115,8 @@ fn main() {
     map(b"published_lt.job");
     map(b"board.job");
     check(b"board.job", b"board.mapping");
+    map(b"book.job");
+    check(b"book.job", b"book.mapping");
     console::print(b"map inputs\n");
     cases::map_inputs();
     console::print(b"check inputs\n");

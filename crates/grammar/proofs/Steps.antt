@@ -1,19 +1,22 @@
 -- The ways out of the tests of one word.
 use mathlib.Core.Path.{_≡_, refl, sym, ap, _∙_}
-use mathlib.Core.Bool.{Bool, true, false, not}
+use mathlib.Core.Bool.{Bool, true, false, not, _&&_}
 use Prim.Native.Nat.{ℕ, _+_, _^_}
+use native.Mathlib.Nat.{div-one}
 use lib.Dec.{eqb, ltb}
+use lib.Bits.{bitAnd, and-mask}
 use borrow.Author.Tests.{eq-eqb, ne-eqb, not-true, not-false}
 use Rattle.words.specs.Choice.{if_then_else_}
 use Rattle.words.specs.Field.{kindOf, contentOf, sourceFunction, targetFunction}
 use Rattle.words.specs.Kinds.{HEADER, PRICES, SOURCE, TARGET, RULE, BINDING, GLUE, isRecipe}
 use Rattle.words.specs.Paper.{noRefusal}
-use Rattle.alu.specs.Range.{isFunction}
+use Rattle.alu.specs.Range.{isFunction, isWidth}
 use Rattle.recipe.specs.Fields.{sourceOf}
 use Rattle.layout.specs.Layout.{laidOut, readsUndriven, showsOther}
 use Rattle.sequence.specs.Sequence.{inSequence}
 use Rattle.grammar.specs.Reading.{headerFits, fits, functionIn, rises, wordFault, raised, noted, after, stepOf}
 use Rattle.sequence.specs.declared.File.{File}
+use Rattle.sequence.specs.declared.File.the-variants.{AsJob, AsMapping}
 use Rattle.sequence.specs.declared.State.{State}
 use Rattle.grammar.specs.declared.step.Step.the-variants.{Next, Bad}
 
@@ -26,6 +29,13 @@ module _ (w k : ℕ) (ek : k ≡ kindOf w) where
   is-not {n} h = ne-eqb (kindOf w) n (λ e. h (ek ∙ e))
 
 -- ---- 3: what stands below it
+
+module _ (file : File) (w c : ℕ) (ec : c ≡ contentOf w) (r : Bool) where
+  pub job-header : file ≡ AsJob → r ≡ isWidth (bitAnd w 127) → ltb c 256 && r ≡ headerFits file w
+  job-header ef er = rw (ef, er, ec, and-mask w 7, div-one) refl
+
+  pub mapping-header : file ≡ AsMapping → r ≡ isWidth c → r ≡ headerFits file w
+  mapping-header ef er = rw (ef, er, ec) refl
 
 module _ (file : File) (w k c : ℕ) (ek : k ≡ kindOf w) (ec : c ≡ contentOf w) where
   pub header-fits : (r : Bool) → k ≡ HEADER → r ≡ headerFits file w → r ≡ fits file w

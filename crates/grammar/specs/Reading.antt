@@ -1,10 +1,10 @@
 -- Document 01, "Refusals that come from the input": "word by word, 2 to 6 in each".
 use Prim.Native.Nat.{ℕ, _+_, _^_}
-use mathlib.Core.Bool.{Bool, true, false, not}
+use mathlib.Core.Bool.{Bool, true, false, not, _&&_}
 use mathlib.Core.List.{List, [], _∷_}
 use lib.Dec.{eqb, ltb}
 use Rattle.words.specs.Choice.{if_then_else_}
-use Rattle.words.specs.Field.{kindOf, contentOf, sourceFunction, targetFunction}
+use Rattle.words.specs.Field.{field, kindOf, contentOf, sourceFunction, targetFunction}
 use Rattle.words.specs.Kinds.{HEADER, PRICES, SOURCE, TARGET, RULE, BINDING, GLUE, isRecipe}
 use Rattle.words.specs.Paper.{refusal, noRefusal}
 use Rattle.alu.specs.Function.{noFunction}
@@ -13,6 +13,7 @@ use Rattle.recipe.specs.Fields.{sourceOf}
 use Rattle.layout.specs.Layout.{laidOut, readsUndriven, showsOther}
 use Rattle.sequence.specs.Sequence.{START, inSequence}
 use Rattle.sequence.specs.declared.File.{File}
+use Rattle.sequence.specs.declared.File.the-variants.{AsJob, AsMapping}
 use Rattle.sequence.specs.declared.State.{State}
 use Rattle.grammar.specs.declared.step.Step.{Step}
 use Rattle.grammar.specs.declared.step.Step.the-variants.{Next, Bad}
@@ -21,9 +22,10 @@ use Rattle.grammar.specs.declared.step.Reading.the-variants.{Passed, Sto
 
 -- ---- "3. A field, number or zero bit against the layout": what stands below the kind; "bits not named are zero"
 
--- "header: bits 6..0 width", in a job and in a mapping
+-- "header: bits 6..0 width", and request #101: "Header bit 7 of a job, in a mapping still zero"
 abbrev pub headerFits : File → ℕ → Bool
-headerFits file w = isWidth (contentOf w)
+headerFits AsJob w = ltb (contentOf w) (2 ^ 8) && isWidth (field w 0 7)
+headerFits AsMapping w = isWidth (contentOf w)
 
 -- "prices, 0 to 255: bits 23..16 .., 15..8 .., 7..0"
 abbrev pub pricesFit : ℕ → Bool

@@ -31,11 +31,14 @@ pub enum Reading {
     Stopped(Refusal),
 }
 
-// What a header must be, in a job and in a mapping.
+// What a header must be: a width, and in a job bit 7 besides, which asks for the book.
 fn header_fits(file: File, word: u32) -> bool
     ensures { λ r. ⌜ r ≡ R.headerFits file word ⌝ }
 {
-    alu::is_width(content_of(word))
+    match file {
+        File::AsJob => (content_of(word) < 0x100) & alu::is_width(word & 0x7f),
+        File::AsMapping => alu::is_width(content_of(word)),
+    }
 }
 
 // Refusal 3 unless this holds: the bits below the kind are as the layout says.

@@ -1,8 +1,8 @@
 -- The mapper's answer and the lent words, from the choice.
 use mathlib.Core.Path.{_≡_, refl, sym, ap, _∙_, subst}
 use mathlib.Core.Bool.{true, false, not}
-use mathlib.Core.List.{List, []}
-use Prim.Native.Nat.{ℕ, _≤_}
+use mathlib.Core.List.{List, [], _++_}
+use Prim.Native.Nat.{ℕ, _+_, _^_, _<_, _≤_}
 use native.Mathlib.Omega.{arith}
 use borrow.Author.Tests.{not-true, not-false}
 use lib.ListN.{length, take, drop, length-drop}
@@ -10,8 +10,9 @@ use lib.Seq.{length-take-le}
 use Rattle.bits.specs.Asked.{Width}
 use Rattle.words.specs.Paper.{refusal}
 use Rattle.words.specs.declared.Refusal.{Refusal}
-use Rattle.sequence.specs.Limits.{mostSources}
-use Rattle.reader.specs.Starts.{sourcesStart}
+use Rattle.book.specs.Book.{book}
+use Rattle.sequence.specs.Limits.{mostSources, mostRules}
+use Rattle.reader.specs.Starts.{sourcesStart, rulesStart}
 use Rattle.reader.specs.Job.{jobOf, WellFormedJob}
 use Rattle.reader.specs.declared.Job.{Job}
 use Rattle.reader.specs.declared.JobRead.{JobRead}
@@ -27,7 +28,7 @@ use Rattle.writer.specs.declared.Written.{Written}
 use Rattle.writer.specs.declared.Written.the-variants as written
 use Rattle.choice.specs.Choose.{Choice, Mapped, Unmappable, choose}
 use Rattle.choice.specs.Chosen.{KeptChoice, WritableChoice}
-use Rattle.mapper.specs.Mapping.{choiceOf, chosenWords, answerTo, answerFor, answerOf, lentTo, lentFor, lentAfterMap}
+use Rattle.mapper.specs.Mapping.{bookOf, choiceOf, chosenWords, answerTo, answerFor, answerOf, lentTo, lentFor, lentAfterMap}
 use Rattle.choice.specs.declared.Chosen.{Chosen}
 use Rattle.mapper.specs.declared.Answer.{Answer}
 use Rattle.mapper.specs.declared.Answer.the-variants.{Mapping, Refused}
@@ -48,15 +49,29 @@ module _ (ws : List ℕ) (job : Job) (e : WellFormedJob ws job) where
   sources-length =
       length-take-le (job .sources) (drop sourcesStart ws) (omega (arith, length-drop sourcesStart ws, facts .size))
 
+  rules-length : length (rulesOf ws job) ≤ mostRules
+  rules-length = omega (arith, length-drop (rulesStart job) ws, facts .size, facts .rules-most)
+
+  -- the book where it is asked for, and nothing where it is not
+  pub book-asked : job .book ≡ true → book ≡ bookOf job
+  book-asked h = rw h refl
+
+  pub no-book : job .book ≡ false → [] ≡ bookOf job
+  no-book h = rw h refl
+
   module _ (ss ts rs : List ℕ) (es : ss ≡ sourcesOf ws job) (et : ts ≡ targetsOf ws job) (er : rs ≡ rulesOf ws job) where
     pub sources-few : length ss ≤ mostSources
     sources-few = omega (arith, ap length es ∙ sources-length, facts .sources-most)
 
-    pub kept-choice : (c : Chosen) → KeptChoice c (length ss) (choose (termsWith job ss ts) rs [] ss)
+    pub rules-few : (n : ℕ) → n ≤ mostRules → length rs + n < 2 ^ 32
+    rules-few n h = omega (arith, ap length er, rules-length)
+
+    pub kept-choice : (bs : List ℕ) → bs ≡ bookOf job
+        → (c : Chosen) → KeptChoice c (length ss) (choose (termsWith job ss ts) (rs ++ bs) [] ss)
         → KeptChoice c (job .sources) (choiceOf ws job)
-    kept-choice c k =
+    kept-choice bs eb c k =
         subst (λ (m : ℕ). KeptChoice c m (choiceOf ws job)) (ap length es ∙ sources-length)
-        (subst (KeptChoice c (length ss)) (λ i. choose (termsWith job (es i) (et i)) (er i) [] (es i)) k)
+        (subst (KeptChoice c (length ss)) (λ i. choose (termsWith job (es i) (et i)) (er i ++ eb i) [] (es i)) k)
 
 -- ---- the writing
 

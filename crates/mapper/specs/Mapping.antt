@@ -1,8 +1,10 @@
 -- What the mapper answers and writes: the refusals 1 to 6 of the job first, then 12, and 23 last.
 use Prim.Native.Nat.{ℕ}
-use mathlib.Core.List.{List, [], _∷_}
+use mathlib.Core.List.{List, [], _∷_, _++_}
 use lib.ListN.{length}
+use Rattle.words.specs.Choice.{if_then_else_}
 use Rattle.words.specs.Paper.{Paper, refusal, accepted, told}
+use Rattle.book.specs.Book.{book}
 use Rattle.reader.specs.Job.{jobOf}
 use Rattle.reader.specs.declared.Job.{Job}
 use Rattle.reader.specs.declared.JobRead.{JobRead}
@@ -16,9 +18,16 @@ use Rattle.choice.specs.Choose.{Choice, Mapped, Unmappable, choose}
 use Rattle.mapper.specs.declared.Answer.{Answer}
 use Rattle.mapper.specs.declared.Answer.the-variants.{Mapping, Refused}
 
--- the choice for a job
+-- request #101: "Header bit 7 of a job .. places the book after the job's own rules"
+abbrev pub bookOf : Job → List ℕ
+bookOf job = if job .book then book else []
+
+abbrev pub rulesFor : List ℕ → Job → List ℕ
+rulesFor ws job = rulesOf ws job ++ bookOf job
+
+-- the choice for a job; "the mapper's choice and refusal 12 then range over both"
 abbrev pub choiceOf : List ℕ → Job → Choice
-choiceOf ws job = choose (termsOf ws job) (rulesOf ws job) [] (sourcesOf ws job)
+choiceOf ws job = choose (termsOf ws job) (rulesFor ws job) [] (sourcesOf ws job)
 
 -- the mapping that binds by these rules, with its glue count
 abbrev pub chosenWords : Job → List ℕ → List ℕ

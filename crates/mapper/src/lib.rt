@@ -1,4 +1,5 @@
 // The mapper: for each source of a job the rule of document 01's choice, written as a mapping into lent words.
+use book::BOOK;
 use choice::Chosen;
 use reader::Job;
 use reader::JobRead;
@@ -17,7 +18,8 @@ pub enum Answer {
     Refused(Refusal),
 }
 
-// The choice for a job that was read. Its rules are a part of its words that begins after its tables.
+// The choice for a job that was read. Its rules are a part of its words that begins after its tables; the book, if it asks for it, stands
+// behind them.
 fn choice_of(job: Job, words: &[u32]) -> Chosen
     requires { ⌜ J.WellFormedJob (now words) job ⌝ }
     ensures { λ r. ⌜ K.KeptChoice r (job .sources) (M.choiceOf (now (words .entry)) job) ⌝ }
@@ -25,7 +27,10 @@ fn choice_of(job: Job, words: &[u32]) -> Chosen
     let sources = table::sources_of(words, job);
     let targets = table::targets_of(words, job);
     let rules = table::rules_of(words, job);
-    choice::choose(job, sources, targets, rules)
+    if job.book {
+        return choice::choose(job, sources, targets, rules, &BOOK);
+    }
+    choice::choose(job, sources, targets, rules, &[])
 }
 
 // Writes the mapping that binds by the chosen rules.

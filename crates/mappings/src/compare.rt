@@ -2,6 +2,7 @@
 use crate::random::NAMES;
 use crate::random::put_job;
 use crate::show::LENT;
+use book::BOOK;
 use mapper::Answer;
 use reference::answer::OF_JOB;
 use reference::answer::WRITTEN;
@@ -17,14 +18,17 @@ use testing::tally::no_numbers;
 use testing::tally::noted;
 use testing::words::at;
 use testing::words::first;
+use testing::words::put;
 
 // Widths at which the second account tries all operands, and at which it knows which rules are right.
 pub const TRIED: [u32; 8] = [1, 2, 2, 3, 3, 4, 4, 4];
 
 pub const KNOWN: [u32; 8] = [5, 8, 16, 31, 32, 33, 63, 64];
 
-// How many jobs of each shape.
-const JOBS: [u32; 6] = [1600, 800, 40, 400, 80, 400];
+// How many jobs of each shape; and of those that ask for the book, which take longer and are mapped without rules too.
+pub const JOBS: [u32; 6] = [1600, 800, 40, 400, 80, 400];
+
+pub const BOOK_JOBS: [u32; 6] = [400, 200, 200, 100, 80, 200];
 
 // The number of the mapper's refusal, 0 for none, and whether the second account answers and writes the same.
 struct Outcome {
@@ -62,7 +66,7 @@ fn holds(lent: &[u32], mapped: Mapped) -> bool {
 // A job mapped into lent words.
 fn outcome_in(job: &[u32], lent: &mut [u32]) -> Outcome {
     let told = of_answer(mapper::map(job, lent));
-    let mapped = map(job, lent.len());
+    let mapped = map(job, &BOOK, lent.len());
     let answer = mapped.answer;
     Outcome {
         number: told.number,
@@ -89,9 +93,9 @@ fn counted(all: Numbers, job: &[u32], outcome: Outcome) -> Numbers {
     noted(all, (outcome.number % 32 + 5) / 6, outcome.same)
 }
 
-// Random jobs of a shape at some widths. Half of them are lent more words than any mapping needs.
-fn random_jobs(shape: u32, widths: &[u32]) -> Numbers {
-    let count = at(&JOBS, shape as usize);
+// Random jobs of a shape at some widths, with a bit of the header set or none. Half of them are lent more words than any mapping needs.
+fn random_jobs(shape: u32, widths: &[u32], jobs: &[u32], asked: u32) -> Numbers {
+    let count = at(jobs, shape as usize);
     let mut words = [0u32; 569];
     let mut all = no_numbers();
     let mut random = next(0x9e37_79b9_7f4a_7c15 ^ (shape as u64) ^ ((at(widths, 0) as u64) << 8));
@@ -99,6 +103,7 @@ fn random_jobs(shape: u32, widths: &[u32]) -> Numbers {
     while i < count {
         let n = at(widths, (i % 8) as usize);
         let size = put_job(&mut words, shape, n, random);
+        put(&mut words, 0, 0x1000_0000 | n | asked);
         let job = first(&words, size);
         let more = counted(all, job, outcome_of(job, (random % 64) as usize));
         all = more;
@@ -109,10 +114,10 @@ fn random_jobs(shape: u32, widths: &[u32]) -> Numbers {
 }
 
 // A line for each shape.
-pub fn report_random(name: &[u8], widths: &[u32]) {
+pub fn report_random(name: &[u8], widths: &[u32], jobs: &[u32], asked: u32) {
     let mut shape: u32 = 0;
     while shape < 6 {
-        let all = random_jobs(shape, widths);
+        let all = random_jobs(shape, widths, jobs, asked);
         let tally = all.tally;
         let by = all.by;
         say::text(name);

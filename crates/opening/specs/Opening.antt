@@ -1,5 +1,6 @@
 -- Document 01, "Mapper and bench": the tables that open gives a bench.
 use Prim.Native.Nat.{ℕ, _-_}
+use mathlib.Core.Bool.{false}
 use mathlib.Core.List.{List, _++_}
 use lib.ListN.{length, replicate}
 use Rattle.sequence.specs.Limits.{mostSources, mostTargets}
@@ -36,6 +37,7 @@ noJob =
       sources = 0;
       targets = 0;
       rules = 0;
+      book = false;
     }
 
 abbrev pub tablesOfZeros : Tables

@@ -23,6 +23,7 @@ const NO_JOB: Job = Job {
     sources: 0,
     targets: 0,
     rules: 0,
+    book: false,
 };
 
 // The tables of a job with these words in them.

@@ -2,7 +2,7 @@
 use Prim.Native.Nat.{ℕ}
 use mathlib.Core.Path.{_≡_}
 use mathlib.Core.List.{List, [], _∷_}
-use lib.Dec.{ltb}
+use lib.Dec.{eqb, ltb}
 use lib.ListN.{length, getD}
 use Rattle.words.specs.Choice.{if_then_else_}
 use Rattle.words.specs.Field.{field}
@@ -22,7 +22,7 @@ use Rattle.reader.specs.declared.JobRead.the-variants.{Accepted, Refused
 abbrev pub pricesIn : ℕ → Prices
 pricesIn w = record { inverter = field w 16 8; gate = field w 8 8; multiplexer = field w 0 8 }
 
--- what a header, with "bits 6..0 width", a word of prices and the words behind them say
+-- what a header, with "bits 6..0 width" and bit 7 for the book (request #101), a word of prices and the words behind them say
 abbrev pub jobFacts : ℕ → ℕ → State → Job
 jobFacts header prices s =
     record {
@@ -31,6 +31,7 @@ jobFacts header prices s =
       sources = s .sources;
       targets = s .targets;
       rules = s .rules;
+      book = eqb (field header 7 1) 1;
     }
 
 -- the words passed one by one; "or file ended early (place: word count)": a job has "1 to 27 sources"
@@ -54,5 +55,6 @@ WellFormedJob ws job = jobOf ws ≡ Accepted job
 abbrev pub paperOf : JobRead → Paper
 paperOf (Accepted job) =
     accepted
-    (job .width ∷ job .prices .inverter ∷ job .prices .gate ∷ job .prices .multiplexer ∷ job .sources ∷ job .targets ∷ job .rules ∷ [])
+    (job .width ∷ job .prices .inverter ∷ job .prices .gate ∷ job .prices .multiplexer ∷ job .sources ∷ job .targets ∷ job .rules
+    ∷ (if job .book then 1 else 0) ∷ [])
 paperOf (Refused r) = told r

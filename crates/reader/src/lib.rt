@@ -17,13 +17,15 @@ pub const SOURCES_START: usize = 2;
 
 pub const BINDINGS_START: usize = 1;
 
-// What a job says: its width, its prices, and how many sources, targets and rules its words hold, in this order, behind these.
+// What a job says: its width, its prices, how many sources, targets and rules its words hold, in this order, behind these, and whether it
+// asks for the book.
 pub struct Job {
     pub width: u32,
     pub prices: Prices,
     pub sources: u32,
     pub targets: u32,
     pub rules: u32,
+    pub book: bool,
 }
 
 pub enum JobRead {
@@ -64,6 +66,7 @@ fn job_facts(header: u32, prices: u32, s: State) -> Job
         sources: s.sources,
         targets: s.targets,
         rules: s.rules,
+        book: (header >> 7) & 1 == 1,
     }
 }
 

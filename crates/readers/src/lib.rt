@@ -16,11 +16,11 @@ fn refused(number: u32, place: usize) -> Reading {
     Reading {
         number,
         place,
-        facts: [0; 7],
+        facts: [0; 8],
     }
 }
 
-fn accepted(facts: [u32; 7]) -> Reading {
+fn accepted(facts: [u32; 8]) -> Reading {
     Reading {
         number: 0,
         place: 0,
@@ -28,7 +28,7 @@ fn accepted(facts: [u32; 7]) -> Reading {
     }
 }
 
-fn facts_of(job: Job) -> [u32; 7] {
+fn facts_of(job: Job) -> [u32; 8] {
     let prices = job.prices;
     [
         job.width,
@@ -38,6 +38,7 @@ fn facts_of(job: Job) -> [u32; 7] {
         job.sources,
         job.targets,
         job.rules,
+        job.book as u32,
     ]
 }
 
@@ -51,13 +52,13 @@ fn from_job(answer: JobRead) -> Reading {
 fn from_mapping(answer: MappingRead) -> Reading {
     match answer {
         MappingRead::Refused(refusal) => refused(refusal.number, refusal.place),
-        MappingRead::Accepted(m) => accepted([m.width, m.bindings, m.glue, 0, 0, 0, 0]),
+        MappingRead::Accepted(m) => accepted([m.width, m.bindings, m.glue, 0, 0, 0, 0, 0]),
     }
 }
 
-fn same_facts(a: [u32; 7], b: [u32; 7]) -> bool {
+fn same_facts(a: [u32; 8], b: [u32; 8]) -> bool {
     let mut i = 0;
-    while i < 7 {
+    while i < 8 {
         if a[i] != b[i] {
             return false;
         }

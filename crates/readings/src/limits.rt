@@ -56,18 +56,26 @@ const SIZE_NAMES: [u8; 167] = *b"0 and 1, 27 and 28 sources|27 and 28 targets|51
 
 // Files with one word set to another, by hexadecimal digits: one that is 1 for a job; two for the place, two for the number, 0 for none,
 // and eight for the word. In the last group two refusals hold of each word: the lower number is given.
-const WORDS: [u64; 33] = [
+const WORDS: [u64; 41] = [
     0x1_00_00_1000_0001,
     0x1_00_00_1000_0040,
     0x1_00_03_1000_0000,
     0x1_00_03_1000_0041,
-    0x1_00_03_1000_0090,
+    0x1_00_00_1000_0081,
+    0x1_00_00_1000_0090,
+    0x1_00_00_1000_00c0,
+    0x1_00_03_1000_0080,
+    0x1_00_03_1000_00c1,
+    0x1_00_03_1000_0110,
     0x1_00_03_1800_0010,
     0x0_00_00_1000_0001,
     0x0_00_00_1000_0040,
     0x0_00_03_1000_0000,
     0x0_00_03_1000_0041,
+    0x0_00_03_1000_0080,
     0x0_00_03_1000_0090,
+    0x0_00_03_1000_00c1,
+    0x0_00_03_1000_0110,
     0x0_00_03_1800_0010,
     0x1_01_00_2000_0000,
     0x1_01_00_20ff_ffff,
@@ -92,7 +100,7 @@ const WORDS: [u64; 33] = [
     0x0_02_05_6118_0140,
 ];
 
-const WORD_GROUPS: [usize; 6] = [0, 12, 16, 24, 26, 33];
+const WORD_GROUPS: [usize; 6] = [0, 20, 24, 32, 34, 41];
 
 const WORD_NAMES: [u8; 60] = *b"widths|prices|functions|glue counts|two refusals of one word";
 
@@ -136,7 +144,7 @@ fn with_size(all: Numbers, i: usize) -> Numbers {
 }
 
 fn with_word(all: Numbers, i: usize) -> Numbers {
-    if i < 33 {
+    if i < 41 {
         return replaced(all, WORDS[i]);
     }
     all

@@ -12,16 +12,18 @@ use testing::words::at;
 use testing::words::put;
 use testing::words::word_of;
 
-// What is done to a file of 17 words: a refusal's number, met at a set of places, the lowest bit the first; the file cut; or every kind of
-// word put at every place.
-const DONE: [u32; 7] = [2, CUT, 3, 4, 5, 6, EVERY];
+// What is done to a file of 17 words: a refusal's number, met at a set of places, the lowest bit the first; the file cut; every kind of
+// word put at every place; or each bit of the header turned, and the set those that leave it a header.
+const DONE: [u32; 8] = [2, CUT, 3, 4, 5, 6, EVERY, TURNED];
 
 const CUT: u32 = 0;
 
 const EVERY: u32 = 1;
 
-// Of a job, then of a mapping.
-const PLACES: [u32; 14] = [
+const TURNED: u32 = 7;
+
+// Of a job, then of a mapping. The width turned in bit 4 is 0, in bit 6 above 64; bit 7 stands in a job alone.
+const PLACES: [u32; 16] = [
     0x1FFFF,
     0,
     0xFFFF,
@@ -29,6 +31,7 @@ const PLACES: [u32; 14] = [
     0x1F000,
     0x1F000,
     0,
+    0xAF,
     0x1FFFF,
     0,
     0xFFFF,
@@ -36,16 +39,17 @@ const PLACES: [u32; 14] = [
     0xFFFE,
     0xFFFE,
     0,
+    0x2F,
 ];
 
-const NAMES: [u8; 461] = *b"job, unknown kind at every place|job, cut after every word\
+const NAMES: [u8; 529] = *b"job, unknown kind at every place|job, cut after every word\
     |job, bad layout at every place|job, a function repeated\
     |job, undriven output in every rule|job, other outputs in every rule\
-    |job, every kind at every place\
+    |job, every kind at every place|job, a bit of the header turned\
     |mapping, unknown kind at every place|mapping, cut after every word\
     |mapping, bad layout at every place|mapping, a function repeated\
     |mapping, undriven output in every binding|mapping, other outputs in every binding\
-    |mapping, every kind at every place";
+    |mapping, every kind at every place|mapping, a bit of the header turned";
 
 // A file of 17 words: 5 sources, 5 targets and 5 rules, or 15 bindings.
 fn seventeen(of_job: bool, words: &mut [u32]) {
@@ -161,24 +165,46 @@ fn every_place(of_job: bool) -> Numbers {
     all
 }
 
+// The number of the refusal of a header with a bit turned: the top four are its kind.
+fn turned_number(bit: u32, fits: u32) -> u32 {
+    if bit > 27 {
+        return 2;
+    }
+    if (fits >> bit) % 2 == 1 { 0 } else { 3 }
+}
+
+fn turned(of_job: bool, fits: u32) -> Numbers {
+    let header = word_there(of_job, 0);
+    let mut all = no_numbers();
+    let mut bit: u32 = 0;
+    while bit < 32 {
+        let number = turned_number(bit, fits);
+        let next = instead(all, of_job, 0, header ^ (1u32 << bit), number);
+        all = next;
+        bit += 1;
+    }
+    all
+}
+
 fn group(of_job: bool, done: u32, places: u32) -> Numbers {
     match done {
         CUT => cuts(of_job),
         EVERY => every_place(of_job),
+        TURNED => turned(of_job, places),
         _ => spoilt(of_job, places, done),
     }
 }
 
 fn report_group(i: usize) {
-    if i < 14 {
-        let all = group(i < 7, DONE[i % 7], PLACES[i]);
+    if i < 16 {
+        let all = group(i < 8, DONE[i % 8], PLACES[i]);
         report(name_at(&NAMES, i), all);
     }
 }
 
 pub fn report_places() {
     let mut i = 0;
-    while i < 14 {
+    while i < 16 {
         report_group(i);
         i += 1;
     }

@@ -104,8 +104,11 @@ fn random_rules(words: &mut [u32], from: usize, state: &mut u64) -> usize {
     wrapping_add_usize(from, count)
 }
 
-// A job's words after its header.
+// A job's words after its width. Half of the jobs ask for the book, by a bit that no draw uses.
 fn random_job(words: &mut [u32], state: &mut u64) -> usize {
+    let asked = (*state >> 20) % 2 * 128;
+    let header = at(words, 0) | asked as u32;
+    put(words, 0, header);
     put(words, 1, 0x2000_0000 | draw(state, 0x0100_0000));
     put(words, 2, 0x3000_0000 | draw_from(state, 1, 27));
     let some = random_table(words, 2, 3, state);

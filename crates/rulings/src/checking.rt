@@ -3,6 +3,7 @@ use accounts::glue::Costs;
 use accounts::glue::glue_count;
 use accounts::reading::function;
 use accounts::reading::read;
+use accounts::reading::width_of;
 use reference::answer::Answer;
 use reference::answer::OF_BOTH;
 use reference::answer::OF_JOB;
@@ -79,7 +80,7 @@ fn first_found_wrong(mapping: &[u32], n: u32) -> u32 {
 
 // The glue count of a mapping's bindings at a job's width and prices.
 pub fn count_for(job: &[u32], mapping: &[u32]) -> u64 {
-    let n = content(at(job, 0));
+    let n = width_of(job);
     let prices = at(job, 1);
     let inverter = prices / 0x1_0000 % 256;
     let gate = prices / 256 % 256;
@@ -103,7 +104,7 @@ fn before_pricing(job: &[u32], mapping: &[u32]) -> Answer {
     if own.number != 0 {
         return answered(OF_MAPPING, own.number, own.place);
     }
-    if at(job, 0) != at(mapping, 0) {
+    if width_of(job) != width_of(mapping) {
         return answered(OF_BOTH, 7, 0);
     }
     let stranger = first_stranger(job, mapping);
@@ -145,7 +146,7 @@ pub fn check(job: &[u32], mapping: &[u32]) -> Answer {
     if refusal.number != 0 {
         return refusal;
     }
-    let wrong = first_found_wrong(mapping, content(at(job, 0)));
+    let wrong = first_found_wrong(mapping, width_of(job));
     if wrong != 0 {
         return answered(OF_BOTH, 10, wrong as usize);
     }
@@ -159,7 +160,7 @@ pub fn check(job: &[u32], mapping: &[u32]) -> Answer {
 // Whether refusal 10 is borne out: nothing comes before it, its witness shows that the function's binding is wrong, and no lower
 // function's binding is found wrong.
 pub fn wrong_is_borne_out(job: &[u32], mapping: &[u32], witness: Witness) -> bool {
-    let n = content(at(job, 0));
+    let n = width_of(job);
     let word = at(mapping, index_of(mapping, 6, witness.function));
     let found = first_found_wrong(mapping, n);
     (before_rightness(job, mapping).number == 0)

@@ -1,7 +1,9 @@
 -- Words that hold what an accepted job's words hold are accepted, with these facts; and so are words laid as a job without rules.
 use mathlib.Core.Path.{_≡_, refl, sym, ap, subst, _∙_}
+use mathlib.Core.Bool.{false}
 use mathlib.Core.List.{List, [], _∷_, _++_}
 use Prim.Native.Nat.{ℕ, suc, _+_, _*_, _<_, _≤_, _^_}
+use native.Mathlib.Nat.{add-zero}
 use native.Mathlib.Omega.{arith}
 use lib.ListN.{length, drop, getD, drop-of-length-le, length-append, List·getD-append}
 use lib.Seq.{getD-append-add}
@@ -18,7 +20,7 @@ use Rattle.reader.specs.declared.Job.{Job}
 use Rattle.words.specs.declared.Prices.{Prices}
 use Rattle.grammar.proofs.Steps.{first-of-kind}
 use Rattle.wellformed.proofs.Parts.{Entry, kind-of-laid, content-of-laid}
-use Rattle.wellformed.proofs.Words.{width-whole}
+use Rattle.wellformed.proofs.Headers.{the-width, the-book, fits-a-job}
 use Rattle.wellformed.proofs.JobWords.{JobFacts}
 use Rattle.reader.proofs.JobAnswers.{accepted}
 use Rattle.wellformed.proofs.MappingAccepting.{passes}
@@ -31,7 +33,7 @@ module _ (ws : List ℕ) (job : Job) (q : JobFacts ws job) where
       let h = getD ws 0 0 in
       let p = getD ws 1 0 in
       let k = q .prices-kind in
-      let a = passes AsJob ws beginning 0 (omega (arith, q .size)) (free-header beginning h refl (q .header-kind) (omega arith) (omega arith)) in
+      let a = passes AsJob ws beginning 0 (omega (arith, q .size)) (free-header beginning h refl (q .header-kind) (fits-a-job h (job .width) (job .book) (q .header) (q .width-least) (q .width-most))) in
       let b = passes AsJob ws (after beginning h) 1 (omega (arith, q .size)) (free-prices (after beginning h) p (q .header-kind) k (omega arith)) in
       record {
         end = after (after beginning h) p;
@@ -70,8 +72,8 @@ module _ (ws : List ℕ) (job : Job) (q : JobFacts ws job) where
       let d = through-rules ws job q (c .end) (to-rules (c .end) (c .holds)) in
       let z : drop (rulesStart job + job .rules) ws ≡ [] = drop-of-length-le ws {i = rulesStart job + job .rules} (omega (arith, q .size)) in
       let read = a .read ∙ b .read ∙ c .read ∙ d .read ∙ ap (reading AsJob (d .end) (rulesStart job + job .rules)) z in
-      let width : job .width ≡ field (getD ws 0 0) 0 7
-      = sym (q .header) ∙ width-whole (getD ws 0 0) (record { least = omega arith; most = omega arith }) in
+      let width = sym (the-width (getD ws 0 0) (job .width) (job .book) (q .header) (q .width-least) (q .width-most)) in
+      let book = sym (the-book (getD ws 0 0) (job .width) (job .book) (q .header) (q .width-least) (q .width-most)) in
       let inverter : job .prices .inverter ≡ field (getD ws 1 0) 16 8 = omega (arith, q .prices) in
       let gate : job .prices .gate ≡ field (getD ws 1 0) 8 8 = omega (arith, q .prices) in
       let multiplexer : job .prices .multiplexer ≡ field (getD ws 1 0) 0 8 = omega (arith, q .prices) in
@@ -83,6 +85,7 @@ module _ (ws : List ℕ) (job : Job) (q : JobFacts ws job) where
         sources = sym (d .holds .sources) x;
         targets = sym (d .holds .targets) x;
         rules = sym (d .holds .rules) x;
+        book = book x;
       }))
 
 -- ---- words laid one after another: a header, prices, sources and targets
@@ -111,7 +114,7 @@ module _ (width : ℕ) (p : Prices) (ss ts : List ℕ) where
       → ((m : ℕ) → m + 1 < length ss → contentOf (getD ss m 0) < contentOf (getD ss (m + 1) 0))
       → ((m : ℕ) → m < length ts → Entry TARGET (getD ts m 0))
       → ((m : ℕ) → m + 1 < length ts → contentOf (getD ts m 0) < contentOf (getD ts (m + 1) 0))
-      → JobFacts laid (record { width = width; prices = p; sources = length ss; targets = length ts; rules = 0 })
+      → JobFacts laid (record { width = width; prices = p; sources = length ss; targets = length ts; rules = 0; book = false })
   laid-well-formed least most a b c some few-sources few-targets sources sources-rise targets targets-rise =
       record {
         size = omega (arith, length-append ss ts);
@@ -125,7 +128,7 @@ module _ (width : ℕ) (p : Prices) (ss ts : List ℕ) where
         targets-most = few-targets;
         rules-most = omega arith;
         header-kind = kind-of-laid HEADER width (omega arith) (omega arith);
-        header = content-of-laid HEADER width (omega arith);
+        header = content-of-laid HEADER width (omega arith) ∙ sym (add-zero width);
         prices-kind = kind-of-laid PRICES (laidPrices p) (omega arith) (omega arith);
         prices = content-of-laid PRICES (laidPrices p) (omega arith);
         source-words = λ m h. subst (Entry SOURCE) (sym (laid-source m h)) (sources m h);

@@ -15,14 +15,14 @@ use Rattle.words.specs.Kinds.{HEADER, PRICES, SOURCE, TARGET, RULE}
 use Rattle.sequence.specs.Limits.{mostSources, mostTargets, mostRules}
 use Rattle.reader.specs.Starts.{targetsStart, rulesStart}
 use Rattle.sequence.specs.Sequence.{jobSequence, inSequence}
-use Rattle.grammar.specs.Reading.{rises, after, functionIn, reading}
+use Rattle.grammar.specs.Reading.{headerFits, rises, after, functionIn, reading}
 use Rattle.sequence.specs.declared.File.the-variants.{AsJob}
 use Rattle.sequence.specs.declared.State.{State}
 use Rattle.reader.specs.declared.Job.{Job}
 use Rattle.grammar.proofs.Steps.{header-fits, prices-fit, source-fits, target-fits, recipe-fits, no-order, next-of-kind, first-of-kind}
 use Rattle.wellformed.proofs.Parts.{Entry, RecipeWord}
 use Rattle.grammar.proofs.Faultless.{Faultless}
-use Rattle.wellformed.proofs.Words.{is-width, is-function, no-outputs, recipe-outputs, function-of-source, function-of-target}
+use Rattle.wellformed.proofs.Words.{is-function, no-outputs, recipe-outputs, function-of-source, function-of-target}
 use Rattle.wellformed.proofs.JobWords.{JobFacts}
 use Rattle.wellformed.proofs.MappingAccepting.{passes}
 
@@ -51,12 +51,12 @@ one-of-three k g h =
     or-first a b e = rw e refl
 
 module _ (s : State) (w : ℕ) where
-  pub free-header : s .stage ≡ 0 → kindOf w ≡ HEADER → 1 ≤ contentOf w → contentOf w ≤ 64 → Faultless AsJob s w
+  pub free-header : s .stage ≡ 0 → kindOf w ≡ HEADER → headerFits AsJob w ≡ true → Faultless AsJob s w
   unfolding inSequence jobSequence
-  free-header z k g h =
+  free-header z k h =
       record {
         in-sequence = rw (k, z) refl;
-        layout = sym (header-fits AsJob w (kindOf w) (contentOf w) refl refl true k (sym (is-width (contentOf w) g h)));
+        layout = sym (header-fits AsJob w (kindOf w) (contentOf w) refl refl true k (sym h));
         order = sym (first-of-kind s w (kindOf w) refl (λ e. omega arith) (λ e. omega arith));
         outputs = no-outputs w HEADER k (λ e. omega arith) (λ e. omega arith);
       }

@@ -11,6 +11,7 @@ use Rattle.words.proofs.Fields.{field-lt}
 use Rattle.words.proofs.Choices.{either}
 use Rattle.words.specs.Kinds.{HEADER, PRICES, SOURCE, TARGET, RULE}
 use Rattle.words.specs.declared.Refusal.{Refusal}
+use Rattle.bits.specs.Bits.{num}
 use Rattle.sequence.specs.Limits.{mostSources, mostTargets, mostRules, mostJobWords}
 use Rattle.reader.specs.Starts.{sourcesStart, targetsStart, rulesStart}
 use Rattle.sequence.specs.Sequence.{inSequence}
@@ -26,7 +27,8 @@ use Rattle.reader.specs.declared.JobRead.the-variants.{Accepted, Refused}
 use Rattle.wellformed.proofs.Parts.{Each, Rising, Entry, RecipeWord, each-none, each-more, rising-none, rising-more, rising-as}
 use Rattle.grammar.proofs.Faultless.{Faultless, passed}
 use Rattle.grammar.proofs.Stages.{by-kind}
-use Rattle.wellformed.proofs.Words.{Last, HeaderFirst, header-first, last-more, width-whole, prices-range, source-entry, target-entry, recipe-word, function-of-source, function-of-target, risen}
+use Rattle.wellformed.proofs.Headers.{header-whole}
+use Rattle.wellformed.proofs.Words.{Last, HeaderFirst, header-first, last-more, prices-range, source-entry, target-entry, recipe-word, function-of-source, function-of-target, risen}
 
 -- ---- what the words so far hold
 
@@ -45,7 +47,7 @@ record Counts (s : State) (i : ℕ) : Type 0 where
 record Held (ws : List ℕ) (s : State) (i : ℕ) : Type 0 where
   counts : Counts s i
   last : Last ws s i
-  header : 1 ≤ s .stage → HeaderFirst ws
+  header : 1 ≤ s .stage → HeaderFirst AsJob ws
   prices : 2 ≤ s .stage → (kindOf (getD ws 1 0) ≡ PRICES) × (contentOf (getD ws 1 0) < 2 ^ 24)
   source-words : Each (Entry SOURCE) ws 2 (s .sources)
   sources-rise : Rising functionIn ws 2 (s .sources)
@@ -172,7 +174,7 @@ pub record JobFacts (ws : List ℕ) (job : Job) : Type 0 where
   pub targets-most : job .targets ≤ mostTargets
   pub rules-most : job .rules ≤ mostRules
   pub header-kind : kindOf (getD ws 0 0) ≡ HEADER
-  pub header : contentOf (getD ws 0 0) ≡ job .width
+  pub header : contentOf (getD ws 0 0) ≡ job .width + num (job .book) * 2 ^ 7
   pub prices-kind : kindOf (getD ws 1 0) ≡ PRICES
   pub prices : contentOf (getD ws 1 0) ≡ job .prices .inverter * 2 ^ 16 + job .prices .gate * 2 ^ 8 + job .prices .multiplexer
   pub source-words : Each (Entry SOURCE) ws sourcesStart (job .sources)
@@ -190,11 +192,11 @@ from-held : (ws : List ℕ) (s : State) → 1 ≤ s .sources → Held ws s (leng
 from-held ws s h q =
     let header = q .header (omega arith) in
     let prices = q .prices (omega arith) in
-    let width = width-whole (getD ws 0 0) (header .1) in
+    let width = header-whole (getD ws 0 0) (header .1) in
     record {
       size = omega arith;
-      width-least = omega (arith, width, header .1);
-      width-most = omega (arith, width, header .1);
+      width-least = width .0 .least;
+      width-most = width .0 .most;
       inverter-most = omega (arith, field-lt (getD ws 1 0) 16 8);
       gate-most = omega (arith, field-lt (getD ws 1 0) 8 8);
       multiplexer-most = omega (arith, field-lt (getD ws 1 0) 0 8);
@@ -203,7 +205,7 @@ from-held ws s h q =
       targets-most = q .counts .few-targets;
       rules-most = q .counts .few-rules;
       header-kind = header .0;
-      header = width;
+      header = width .1;
       prices-kind = prices .0;
       prices = prices-whole (getD ws 1 0) (prices .1);
       source-words = q .source-words;

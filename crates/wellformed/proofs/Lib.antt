@@ -1,5 +1,6 @@
 pub mod Parts
 pub mod Words
+pub mod Headers
 pub mod JobWords
 pub mod MappingWords
 pub mod MappingAccepting

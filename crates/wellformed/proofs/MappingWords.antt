@@ -25,6 +25,7 @@ use Rattle.grammar.specs.declared.step.Reading.the-variants.{Passed, Stopped}
 use Rattle.reader.specs.declared.Mapping.{Mapping}
 use Rattle.reader.specs.declared.MappingRead.{MappingRead}
 use Rattle.reader.specs.declared.MappingRead.the-variants.{Accepted, Refused}
+use Rattle.alu.proofs.Shown.{width-of}
 use Rattle.wellformed.proofs.Parts.{Each, Rising, RecipeWord, word-of-kind, each-none, each-more, rising-none, rising-more, rising-as}
 use Rattle.grammar.proofs.Faultless.{Faultless, passed}
 use Rattle.wellformed.proofs.Words.{Last, HeaderFirst, header-first, last-more, width-whole, recipe-word, function-of-binding, risen}
@@ -68,7 +69,7 @@ record Counts (s : State) (i : ℕ) : Type 0 where
 record Held (ws : List ℕ) (s : State) (i : ℕ) : Type 0 where
   counts : Counts s i
   last : Last ws s i
-  header : 1 ≤ s .stage → HeaderFirst ws
+  header : 1 ≤ s .stage → HeaderFirst AsMapping ws
   binding-words : Each (RecipeWord BINDING) ws 1 (s .bindings)
   bindings-rise : Rising functionIn ws 1 (s .bindings)
   glue : GLUE ≤ s .stage → kindOf (getD ws (1 + s .bindings) 0) ≡ GLUE
@@ -169,12 +170,13 @@ from-held : (ws : List ℕ) (s : State) → s .stage ≡ GLUE → Held ws s (len
     → MappingFacts ws (mappingFacts (getD ws 0 0) (getD ws (length ws - 1) 0) s)
 from-held ws s h q =
     let header = q .header (omega arith) in
-    let width = width-whole (getD ws 0 0) (header .1) in
+    let range = width-of (contentOf (getD ws 0 0)) (header .1) in
+    let width = width-whole (getD ws 0 0) range in
     let last : 1 + s .bindings ≡ length ws - 1 = omega arith in
     record {
       size = omega arith;
-      width-least = omega (arith, width, header .1);
-      width-most = omega (arith, width, header .1);
+      width-least = omega (arith, width, range);
+      width-most = omega (arith, width, range);
       bindings-most = q .counts .few-bindings;
       header-kind = header .0;
       header = width;

@@ -12,10 +12,9 @@ use Rattle.words.specs.Kinds.{HEADER, PRICES, SOURCE, TARGET, RULE, BINDING, is
 use Rattle.words.proofs.Choices.{either}
 use Rattle.alu.specs.Range.{isFunction, isWidth}
 use Rattle.bits.specs.Asked.{Width}
-use Rattle.alu.proofs.Shown.{width-of}
 use Rattle.recipe.specs.Fields.{sourceOf}
 use Rattle.layout.specs.Layout.{laidOut, readsUndriven, showsOther, recipeFault}
-use Rattle.grammar.specs.Reading.{fits, functionIn, rises}
+use Rattle.grammar.specs.Reading.{headerFits, fits, functionIn, rises}
 use Rattle.sequence.specs.declared.File.{File}
 use Rattle.sequence.specs.declared.State.{State}
 use Rattle.grammar.proofs.Steps.{header-fits, prices-fit, source-fits, target-fits, recipe-fits, of-source, of-target, of-recipe}
@@ -80,8 +79,8 @@ no-outputs w k e no5 no6 =
 -- ---- what the kinds of words hold
 
 module _ (file : File) (s : State) (w : ℕ) (g : Faultless file s w) where
-  pub header-width : kindOf w ≡ HEADER → Width (contentOf w)
-  header-width e = width-of (contentOf w) (header-fits file w (kindOf w) (contentOf w) refl refl _ e refl ∙ g .layout)
+  header-layout : kindOf w ≡ HEADER → headerFits file w ≡ true
+  header-layout e = header-fits file w (kindOf w) (contentOf w) refl refl _ e refl ∙ g .layout
 
   pub prices-range : kindOf w ≡ PRICES → contentOf w < 2 ^ 24
   prices-range e =
@@ -148,13 +147,13 @@ pub last-more : (ws : List ℕ) (i p : ℕ) → p + 1 ≡ i + 1 → functionIn (
 last-more ws i p h = let e : i ≡ p = omega arith in ap (λ (x : ℕ). functionIn (getD ws x 0)) e
 
 -- both files begin with a header
-abbrev pub HeaderFirst : List ℕ → Type 0
-HeaderFirst ws = (kindOf (getD ws 0 0) ≡ HEADER) × Width (contentOf (getD ws 0 0))
+abbrev pub HeaderFirst : File → List ℕ → Type 0
+HeaderFirst file ws = (kindOf (getD ws 0 0) ≡ HEADER) × (headerFits file (getD ws 0 0) ≡ true)
 
 pub header-first : (file : File) (s : State) (ws : List ℕ) (i : ℕ) → i ≡ 0 → kindOf (getD ws i 0) ≡ HEADER
-    → Faultless file s (getD ws i 0) → HeaderFirst ws
+    → Faultless file s (getD ws i 0) → HeaderFirst file ws
 header-first file s ws i e k g =
-    subst (λ (x : ℕ). (kindOf (getD ws x 0) ≡ HEADER) × Width (contentOf (getD ws x 0))) e (k, header-width file s (getD ws i 0) g k)
+    subst (λ (x : ℕ). (kindOf (getD ws x 0) ≡ HEADER) × (headerFits file (getD ws x 0) ≡ true)) e (k, header-layout file s (getD ws i 0) g k)
 
 pub risen : (ws : List ℕ) (s : State) (i k start n : ℕ) → Last ws s i → i ≡ start + n → (1 ≤ n → s .stage ≡ k) → (k ≡ RULE → ⊥)
     → kindOf (getD ws i 0) ≡ k → rises s (getD ws i 0) ≡ true

@@ -5,10 +5,10 @@ use Rattle.checks.proofs.report_one_change.Statement.{statement}
 use Rattle.checks.proofs.report_one_change.Tie as tie
 
 abbrev Inv-loop : tie.InvT-loop
-Inv-loop i₀ i = i ≤ 24
+Inv-loop i₀ i = i ≤ 28
 
 abbrev μ-loop : tie.MeasureT-loop
-μ-loop i₀ i = 24 - i
+μ-loop i₀ i = 28 - i
 
 loop-holds : tie.Need-loop-holds Inv-loop μ-loop
 loop-holds c = search needs

@@ -5,10 +5,10 @@ use Rattle.readers.proofs.same_facts.Statement.{statement}
 use Rattle.readers.proofs.same_facts.Tie as tie
 
 abbrev Inv-loop : tie.InvT-loop
-Inv-loop a b i₀ i = i ≤ 7
+Inv-loop a b i₀ i = i ≤ 8
 
 abbrev μ-loop : tie.MeasureT-loop
-μ-loop a b i₀ i = 7 - i
+μ-loop a b i₀ i = 8 - i
 
 loop-holds : tie.Need-loop-holds Inv-loop μ-loop
 loop-holds c = search needs

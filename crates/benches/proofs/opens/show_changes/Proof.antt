@@ -5,10 +5,10 @@ use Rattle.benches.proofs.opens.show_changes.Statement.{statement}
 use Rattle.benches.proofs.opens.show_changes.Tie as tie
 
 abbrev Inv-loop : tie.InvT-loop
-Inv-loop i₀ i = i ≤ 24
+Inv-loop i₀ i = i ≤ 25
 
 abbrev μ-loop : tie.MeasureT-loop
-μ-loop i₀ i = 24 - i
+μ-loop i₀ i = 25 - i
 
 loop-holds : tie.Need-loop-holds Inv-loop μ-loop
 loop-holds c = search needs

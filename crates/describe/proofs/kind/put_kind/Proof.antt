@@ -10,14 +10,8 @@ kind-of-requires c κs = search needs
 content-of-requires : tie.Need-content-of-requires
 content-of-requires c κs = search needs
 
-slice-aggregate-put-labelled : tie.Need-slice-aggregate-put-labelled
-slice-aggregate-put-labelled c = search needs
-
-cast-put-labelled : tie.Need-cast-put-labelled
-cast-put-labelled c = search needs
-
-put-labelled-requires : tie.Need-put-labelled-requires
-put-labelled-requires c κs = search needs
+put-header-requires : tie.Need-put-header-requires
+put-header-requires c κs = search needs
 
 same-length : tie.Need-same-length
 same-length c = search needs
@@ -64,14 +58,14 @@ same-length-4 c = search needs
 returns-4 : tie.Need-returns-4
 returns-4 c = (search needs, search target-put)
 
-slice-aggregate-put-labelled-2 : tie.Need-slice-aggregate-put-labelled-2
-slice-aggregate-put-labelled-2 c = search needs
+slice-aggregate-put-labelled : tie.Need-slice-aggregate-put-labelled
+slice-aggregate-put-labelled c = search needs
 
-cast-put-labelled-2 : tie.Need-cast-put-labelled-2
-cast-put-labelled-2 c = search needs
+cast-put-labelled : tie.Need-cast-put-labelled
+cast-put-labelled c = search needs
 
-put-labelled-requires-2 : tie.Need-put-labelled-requires-2
-put-labelled-requires-2 c κs = search needs
+put-labelled-requires : tie.Need-put-labelled-requires
+put-labelled-requires c κs = search needs
 
 same-length-5 : tie.Need-same-length-5
 same-length-5 c = search needs
@@ -109,9 +103,7 @@ put-kind-spec =
     (tie.spec
     kind-of-requires
     content-of-requires
-    slice-aggregate-put-labelled
-    cast-put-labelled
-    put-labelled-requires
+    put-header-requires
     same-length
     returns
     put-prices-requires
@@ -127,9 +119,9 @@ put-kind-spec =
     put-function-requires-2
     same-length-4
     returns-4
-    slice-aggregate-put-labelled-2
-    cast-put-labelled-2
-    put-labelled-requires-2
+    slice-aggregate-put-labelled
+    cast-put-labelled
+    put-labelled-requires
     same-length-5
     returns-5
     slice-aggregate-put-recipe

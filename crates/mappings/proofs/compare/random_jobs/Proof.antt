@@ -7,13 +7,10 @@ use Rattle.mappings.proofs.compare.random_jobs.Statement.{statement}
 use Rattle.mappings.proofs.compare.random_jobs.Tie as tie
 
 abbrev Inv-loop : tie.InvT-loop
-Inv-loop shape widths count words₀ all₀ random₀ i₀ words all random i = (i ≤ count) × (length words ≡ 569)
+Inv-loop shape widths jobs asked count words₀ all₀ random₀ i₀ words all random i = (i ≤ count) × (length words ≡ 569)
 
 abbrev μ-loop : tie.MeasureT-loop
-μ-loop shape widths count words₀ all₀ random₀ i₀ words all random i = count - i
-
-slice-aggregate-at : tie.Need-slice-aggregate-at Inv-loop μ-loop
-slice-aggregate-at c = search needs
+μ-loop shape widths jobs asked count words₀ all₀ random₀ i₀ words all random i = count - i
 
 at-requires : tie.Need-at-requires Inv-loop μ-loop
 at-requires c κs = search needs
@@ -44,6 +41,12 @@ slice-aggregate-put-job c = search needs
 
 put-job-requires : tie.Need-put-job-requires Inv-loop μ-loop
 put-job-requires c κs = search needs
+
+slice-aggregate-put : tie.Need-slice-aggregate-put Inv-loop μ-loop
+slice-aggregate-put c = search needs
+
+put-requires : tie.Need-put-requires Inv-loop μ-loop
+put-requires c κs = search needs
 
 slice-aggregate-first : tie.Need-slice-aggregate-first Inv-loop μ-loop
 slice-aggregate-first c = search needs
@@ -78,7 +81,6 @@ random-jobs-spec =
     (tie.spec
     Inv-loop
     μ-loop
-    slice-aggregate-at
     at-requires
     no-numbers-requires
     at-requires-2
@@ -89,6 +91,8 @@ random-jobs-spec =
     at-requires-3
     slice-aggregate-put-job
     put-job-requires
+    slice-aggregate-put
+    put-requires
     slice-aggregate-first
     first-requires
     outcome-of-requires

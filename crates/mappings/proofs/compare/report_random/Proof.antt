@@ -5,10 +5,10 @@ use Rattle.mappings.proofs.compare.report_random.Statement.{statement}
 use Rattle.mappings.proofs.compare.report_random.Tie as tie
 
 abbrev Inv-loop : tie.InvT-loop
-Inv-loop name widths shape₀ t7 t8 shape = shape ≤ 6
+Inv-loop name widths jobs asked shape₀ t9 t10 shape = shape ≤ 6
 
 abbrev μ-loop : tie.MeasureT-loop
-μ-loop name widths shape₀ t7 t8 shape = 6 - shape
+μ-loop name widths jobs asked shape₀ t9 t10 shape = 6 - shape
 
 loop-holds : tie.Need-loop-holds Inv-loop μ-loop
 loop-holds c = search needs
@@ -34,17 +34,17 @@ text-requires-2 c κs = search needs
 slice-aggregate-line : tie.Need-slice-aggregate-line Inv-loop μ-loop
 slice-aggregate-line c = search needs
 
-array-read-t20 : tie.Need-array-read-t20 Inv-loop μ-loop
-array-read-t20 c = search needs
+array-read-t22 : tie.Need-array-read-t22 Inv-loop μ-loop
+array-read-t22 c = search needs
 
-array-read-t23 : tie.Need-array-read-t23 Inv-loop μ-loop
-array-read-t23 c = search needs
+array-read-t25 : tie.Need-array-read-t25 Inv-loop μ-loop
+array-read-t25 c = search needs
 
-array-read-t26 : tie.Need-array-read-t26 Inv-loop μ-loop
-array-read-t26 c = search needs
+array-read-t28 : tie.Need-array-read-t28 Inv-loop μ-loop
+array-read-t28 c = search needs
 
-array-read-t29 : tie.Need-array-read-t29 Inv-loop μ-loop
-array-read-t29 c = search needs
+array-read-t31 : tie.Need-array-read-t31 Inv-loop μ-loop
+array-read-t31 c = search needs
 
 slice-aggregate-line-2 : tie.Need-slice-aggregate-line-2 Inv-loop μ-loop
 slice-aggregate-line-2 c = search needs
@@ -78,10 +78,10 @@ report-random-spec =
     name-at-requires
     text-requires-2
     slice-aggregate-line
-    array-read-t20
-    array-read-t23
-    array-read-t26
-    array-read-t29
+    array-read-t22
+    array-read-t25
+    array-read-t28
+    array-read-t31
     slice-aggregate-line-2
     line-requires
     add-shape

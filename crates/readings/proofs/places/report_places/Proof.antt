@@ -5,10 +5,10 @@ use Rattle.readings.proofs.places.report_places.Statement.{statement}
 use Rattle.readings.proofs.places.report_places.Tie as tie
 
 abbrev Inv-loop : tie.InvT-loop
-Inv-loop i₀ i = i ≤ 14
+Inv-loop i₀ i = i ≤ 16
 
 abbrev μ-loop : tie.MeasureT-loop
-μ-loop i₀ i = 14 - i
+μ-loop i₀ i = 16 - i
 
 loop-holds : tie.Need-loop-holds Inv-loop μ-loop
 loop-holds c = search needs

@@ -1,15 +1,17 @@
 -- `rulings::choosing::best_rule` meets its contract.
 use Prim.Native.Nat.{_≤_}
-use lib.ListN.{length}
 use borrow.Author.Needs.{needs}
 use Rattle.rulings.proofs.choosing.best_rule.Statement.{statement}
 use Rattle.rulings.proofs.choosing.best_rule.Tie as tie
 
 abbrev Inv-loop : tie.InvT-loop
-Inv-loop job bound index source best₀ least₀ i₀ best least i = i ≤ length job
+Inv-loop job book bound index source own best₀ least₀ i₀ best least i = 0 ≤ i
 
 abbrev μ-loop : tie.MeasureT-loop
-μ-loop job bound index source best₀ least₀ i₀ best least i = i
+μ-loop job book bound index source own best₀ least₀ i₀ best least i = i
+
+wrapping-add-usize-requires : tie.Need-wrapping-add-usize-requires Inv-loop μ-loop
+wrapping-add-usize-requires c κs = search needs
 
 loop-holds : tie.Need-loop-holds Inv-loop μ-loop
 loop-holds c = search needs
@@ -20,11 +22,14 @@ sub-i c = search needs
 at-requires : tie.Need-at-requires Inv-loop μ-loop
 at-requires c κs = search needs
 
-glue-with-requires : tie.Need-glue-with-requires Inv-loop μ-loop
-glue-with-requires c κs = search needs
+wrapping-sub-usize-requires : tie.Need-wrapping-sub-usize-requires Inv-loop μ-loop
+wrapping-sub-usize-requires c κs = search needs
 
 at-requires-2 : tie.Need-at-requires-2 Inv-loop μ-loop
 at-requires-2 c κs = search needs
+
+glue-with-requires : tie.Need-glue-with-requires Inv-loop μ-loop
+glue-with-requires c κs = search needs
 
 loop-less : tie.Need-loop-less Inv-loop μ-loop
 loop-less c = search needs
@@ -47,11 +52,13 @@ best-rule-spec =
     (tie.spec
     Inv-loop
     μ-loop
+    wrapping-add-usize-requires
     loop-holds
     sub-i
     at-requires
-    glue-with-requires
+    wrapping-sub-usize-requires
     at-requires-2
+    glue-with-requires
     loop-less
     loop-again
     loop-less-2

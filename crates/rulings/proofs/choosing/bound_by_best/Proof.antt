@@ -7,13 +7,13 @@ use Rattle.rulings.proofs.choosing.bound_by_best.Statement.{statement}
 use Rattle.rulings.proofs.choosing.bound_by_best.Tie as tie
 
 abbrev Inv-loop : tie.InvT-loop
-Inv-loop job end words₀ i₀ words i = length words ≡ 29
+Inv-loop job book end words₀ i₀ words i = length words ≡ 29
 
 abbrev μ-loop : tie.MeasureT-loop
-μ-loop job end words₀ i₀ words i = end - i
+μ-loop job book end words₀ i₀ words i = end - i
 
-at-requires : tie.Need-at-requires Inv-loop μ-loop
-at-requires c κs = search needs
+width-of-requires : tie.Need-width-of-requires Inv-loop μ-loop
+width-of-requires c κs = search needs
 
 array-write-words : tie.Need-array-write-words Inv-loop μ-loop
 array-write-words c = search needs
@@ -24,8 +24,8 @@ loop-holds c = search needs
 add-at : tie.Need-add-at Inv-loop μ-loop
 add-at c = search needs
 
-at-requires-2 : tie.Need-at-requires-2 Inv-loop μ-loop
-at-requires-2 c κs = search needs
+at-requires : tie.Need-at-requires Inv-loop μ-loop
+at-requires c κs = search needs
 
 content-requires : tie.Need-content-requires Inv-loop μ-loop
 content-requires c κs = search needs
@@ -63,11 +63,11 @@ bound-by-best-spec =
     (tie.spec
     Inv-loop
     μ-loop
-    at-requires
+    width-of-requires
     array-write-words
     loop-holds
     add-at
-    at-requires-2
+    at-requires
     content-requires
     best-rule-requires
     returns
