@@ -4,7 +4,7 @@ use mathlib.Core.Bool.{Bool, true, false, not}
 use Prim.Native.Nat.{ℕ, _≤_, _<_}
 use native.Mathlib.Omega.{arith}
 use lib.Dec.{eqb}
-use lib.ListN.{length, getD}
+use lib.ListN.{length}
 use borrow.Author.Tests.{eq-eqb, ne-eqb, eqb-true, eqb-false, not-true, not-false}
 use Rattle.words.specs.Choice.{if_then_else_}
 use Rattle.words.specs.Paper.{refusal}
@@ -19,7 +19,7 @@ use Rattle.sequence.specs.Limits.{mostSources}
 use Rattle.table.proofs.Entries.{in-job-parts}
 use Rattle.soundness.specs.Sound.{sourcesOn, targetsOn, tablesSound, ruleFault}
 use Rattle.soundness.proofs.Soundness.{sound-sources, sound-tables}
-use Rattle.bench.specs.Calls.{soundBench, gives, inTables, entryFor, boundAt, isTaken, bindFault, bindPlace, claimOn, bindOf, Binds}
+use Rattle.bench.specs.Calls.{soundBench, gives, inTables, entryFor, hasBinding, boundAt, bindFault, bindPlace, claimOn, bindOf, Binds}
 use Rattle.bench.specs.Shape.{Shaped}
 use Rattle.bench.specs.declared.Bench.{Bench}
 use Rattle.bench.specs.declared.Answer.the-variants.{Done, Refused, Wrong}
@@ -29,17 +29,13 @@ use Rattle.entries.proofs.Searching.{lists-entry}
 -- ---- the entry
 
 -- a source of the tables has an entry
-pub tables-entry : (b : Bench) (w : ℕ) → inTables b w ≡ true → entryFor b w < length (sourcesOn (b .tables))
+pub tables-entry : (b : Bench) (w : ℕ) → inTables b w ≡ true → entryFor b (sourceOf w) < length (sourcesOn (b .tables))
 tables-entry b w t =
     lists-entry (sourcesOn (b .tables)) (sourceOf w) (in-job-parts (sourcesOn (b .tables)) (targetsOn (b .tables)) w t .0)
 
-module _ (b : Bench) (w : ℕ) (s : soundBench b ≡ true) (t : inTables b w ≡ true) (i : ℕ) (ei : (i ≡ entryFor b w) × (i ≤ mostSources)) where
-  pub entry-there : Shaped b → i < mostSources
-  entry-there h = omega (arith, ei .0, sources-few b h (sound-sources (b .tables) (b .bound) s), tables-entry b w t)
-
-  pub by-bound : not (eqb (getD (b .bound) i 0) 0) ≡ isTaken b w
-  unfolding isTaken
-  by-bound = ap (λ (x : ℕ). not (eqb (getD (b .bound) x 0) 0)) (ei .0)
+pub entry-there : (b : Bench) (w : ℕ) → soundBench b ≡ true → inTables b w ≡ true → (i : ℕ) → i ≡ entryFor b (sourceOf w) → Shaped b
+    → i < mostSources
+entry-there b w s t i ei h = omega (arith, ei, sources-few b h (sound-sources (b .tables) (b .bound) s), tables-entry b w t)
 
 -- ---- the refusals before 10
 
@@ -59,22 +55,19 @@ module _ (b : Bench) (w : ℕ) (p : Bool) (ep : p ≡ soundBench b) where
       bind-absent h =
           rw (sym ep ∙ not-false p hp) (rw (eq-eqb (ruleFault w) 0 (sym ex ∙ hx)) (rw (sym eq ∙ not-true q h) refl))
 
-      module _ (hq : not q ≡ false) where
-        pub source-there : inTables b w ≡ true
-        source-there = sym eq ∙ not-false q hq
+      module _ (hq : not q ≡ false) (f : ℕ) (ef : f ≡ sourceOf w) (t : Bool) (et : t ≡ hasBinding b f) where
+        by-entry : bindFault b w ≡ (if t then 21 else 0)
+        unfolding bindFault
+        by-entry =
+            rw (sym ep ∙ not-false p hp)
+            (rw (eq-eqb (ruleFault w) 0 (sym ex ∙ hx))
+            (rw (sym eq ∙ not-false q hq) (ap (λ (z : Bool). if z then 21 else 0) (sym (et ∙ ap (hasBinding b) ef)))))
 
-        module _ (t : Bool) (et : t ≡ isTaken b w) where
-          by-entry : bindFault b w ≡ (if t then 21 else 0)
-          unfolding bindFault
-          by-entry =
-              rw (sym ep ∙ not-false p hp)
-              (rw (eq-eqb (ruleFault w) 0 (sym ex ∙ hx)) (rw source-there (ap (λ (z : Bool). if z then 21 else 0) (sym et))))
+        pub bind-taken : t ≡ true → 21 ≡ bindFault b w
+        bind-taken h = sym (by-entry ∙ rw h refl)
 
-          pub bind-taken : t ≡ true → 21 ≡ bindFault b w
-          bind-taken h = sym (by-entry ∙ rw h refl)
-
-          pub bind-free : t ≡ false → 0 ≡ bindFault b w
-          bind-free h = sym (by-entry ∙ rw h refl)
+        pub bind-free : t ≡ false → 0 ≡ bindFault b w
+        bind-free h = sym (by-entry ∙ rw h refl)
 
 pub at-function : (x w f : ℕ) → x ≡ 21 → f ≡ sourceOf w → f ≡ bindPlace x w
 at-function x w f e ef = rw (eq-eqb x 21 e) ef
@@ -88,7 +81,7 @@ pub record Checked (b : Bench) (w : ℕ) : Type 0 where
   pub sound : soundBench b ≡ true
   pub a-rule : ruleFault w ≡ 0
   pub there : inTables b w ≡ true
-  pub free : isTaken b w ≡ false
+  pub free : hasBinding b (sourceOf w) ≡ false
 
 pub checked : (b : Bench) (w : ℕ) → bindFault b w ≡ 0 → Checked b w
 unfolding bindFault
@@ -97,7 +90,7 @@ checked b w =
     either Q (not (soundBench b)) (λ _ e. absurd (omega arith))
     (λ s. either Q (not (eqb (ruleFault w) 0)) (λ r e. absurd (eqb-false (ruleFault w) 0 (not-true (eqb (ruleFault w) 0) r) e))
     (λ r. either Q (not (inTables b w)) (λ _ e. absurd (omega arith))
-    (λ t. either Q (isTaken b w) (λ _ e. absurd (omega arith))
+    (λ t. either Q (hasBinding b (sourceOf w)) (λ _ e. absurd (omega arith))
     (λ f _. record {
       sound = not-false (soundBench b) s;
       a-rule = eqb-true (ruleFault w) 0 (not-false (eqb (ruleFault w) 0) r);
@@ -120,16 +113,21 @@ module _ (b : Bench) (w x : ℕ) (ex : x ≡ bindFault b w) where
     pub checked-tables : tablesSound (b .tables) ≡ true
     checked-tables = sound-tables (b .tables) (b .bound) checked-sound
 
-    pub checked-entry : (i : ℕ) → (i ≡ entryFor b w) × (i ≤ mostSources) → Shaped b → i < mostSources
-    checked-entry i ei h = entry-there b w checked-sound (checked b w (sym ex ∙ hx) .there) i ei h
+    module _ (f i : ℕ) (ef : f ≡ sourceOf w) (ei : (i ≡ entryFor b f) × (i ≤ mostSources)) where
+      its-entry : i ≡ entryFor b (sourceOf w)
+      its-entry = ei .0 ∙ ap (entryFor b) ef
+
+      pub checked-entry : Shaped b → i < mostSources
+      checked-entry h = entry-there b w checked-sound (checked b w (sym ex ∙ hx) .there) i its-entry h
+
+      pub bind-right : (v : Verdict) → Says (claimOn b w) (b .tables .width) v → v ≡ verdict.Right
+          → Binds b w (gives (boundAt b i w) Done)
+      unfolding bindOf
+      bind-right v says ev =
+          rw (eq-eqb (bindFault b w) 0 (sym ex ∙ hx))
+          (rw (sym (right-says (claimOn b w) (b .tables .width) v says ev)) (ap (λ (y : ℕ). gives (boundAt b y w) Done) its-entry))
 
     module _ (v : Verdict) (says : Says (claimOn b w) (b .tables .width) v) where
-      pub bind-right : (i : ℕ) → v ≡ verdict.Right → (i ≡ entryFor b w) × (i ≤ mostSources) → Binds b w (gives (boundAt b i w) Done)
-      unfolding bindOf
-      bind-right i ev ei =
-          rw (eq-eqb (bindFault b w) 0 (sym ex ∙ hx))
-          (rw (sym (right-says (claimOn b w) (b .tables .width) v says ev)) (ap (λ (y : ℕ). gives (boundAt b y w) Done) (ei .0)))
-
       pub bind-wrong : (z : Witness) → v ≡ verdict.Wrong z → Binds b w (gives b (Wrong z))
       unfolding bindOf
       bind-wrong z ev =

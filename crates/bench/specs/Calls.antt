@@ -4,7 +4,7 @@ use mathlib.Core.Path.{_≡_}
 use mathlib.Core.Bool.{Bool, not}
 use mathlib.Core.List.{List, [], _∷_}
 use lib.Dec.{eqb}
-use lib.ListN.{getD, set, replicate}
+use lib.ListN.{set, replicate}
 use Rattle.words.specs.Choice.{if_then_else_}
 use Rattle.words.specs.Paper.{Paper, refusal, noRefusal, sourcePlace, accepted, told}
 use Rattle.alu.specs.Function.{noFunction}
@@ -26,7 +26,7 @@ use Rattle.writer.specs.declared.Written.the-variants as written
 use Rattle.soundness.specs.Sound.{nothing, filled, sourcesOn, targetsOn, ruleFault, isSound}
 use Rattle.soundness.specs.declared.Tables.{Tables}
 use Rattle.opening.specs.Opening.{tablesIn, tablesOfZeros}
-use Rattle.entries.specs.Entries.{entryOf, firstEmpty}
+use Rattle.entries.specs.Entries.{entryOf, isBound, firstEmpty}
 use Rattle.bench.specs.declared.Bench.{Bench}
 use Rattle.bench.specs.declared.Answer.{Answer}
 use Rattle.bench.specs.declared.Answer.the-variants.{Done, Count, Mapping, Refused, Wrong}
@@ -49,6 +49,17 @@ soundBench b = isSound (b .tables) (b .bound)
 -- the bindings, in table order
 abbrev pub bindingsOn : Bench → List ℕ
 bindingsOn b = filled (b .bound)
+
+-- the entry of a function's source, and whether something is bound there
+abbrev pub entryFor : Bench → ℕ → ℕ
+entryFor b f = entryOf (sourcesOn (b .tables)) f
+
+abbrev pub hasBinding : Bench → ℕ → Bool
+hasBinding b f = isBound (sourcesOn (b .tables)) (b .bound) f
+
+-- exactly one entry changed
+abbrev pub boundAt : Bench → ℕ → ℕ → Bench
+boundAt b i w = holding b (set (b .bound) i w)
 
 abbrev pub gives : Bench → Answer → After
 gives b a = record { bench = b; answer = a }
@@ -75,17 +86,9 @@ openOf ws = openFor ws (jobOf ws)
 
 -- ---- bind: "20, 2, 3, 5, 6, 8, 21, 10; word places are 0"
 
--- the entry that a recipe is bound at
-abbrev pub entryFor : Bench → ℕ → ℕ
-entryFor b w = entryOf (sourcesOn (b .tables)) (sourceOf w)
-
 -- not "8. Source or target function not in the job"
 abbrev pub inTables : Bench → ℕ → Bool
 inTables b w = inJob (sourcesOn (b .tables)) (targetsOn (b .tables)) w
-
--- "21. Bind: function already bound"
-unfoldable pub isTaken : Bench → ℕ → Bool
-isTaken b w = not (eqb (getD (b .bound) (entryFor b w) nothing) nothing)
 
 -- the refusals before 10, or none
 unfoldable pub bindFault : Bench → ℕ → ℕ
@@ -93,7 +96,7 @@ bindFault b w =
     if not (soundBench b) then 20
     else if not (eqb (ruleFault w) noRefusal) then ruleFault w
     else if not (inTables b w) then 8
-    else if isTaken b w then 21
+    else if hasBinding b (sourceOf w) then 21
     else noRefusal
 
 -- "word places are 0"; "21. .. place: function"
@@ -104,15 +107,11 @@ bindPlace fault w = if eqb fault 21 then sourcePlace (sourceOf w) else 0
 abbrev pub claimOn : Bench → ℕ → Claim
 claimOn b w = claimIn (sourcesOn (b .tables)) (targetsOn (b .tables)) w
 
--- exactly one entry changed
-abbrev pub boundAt : Bench → ℕ → ℕ → Bench
-boundAt b i w = holding b (set (b .bound) i w)
-
 unfoldable pub bindOf : Bench → ℕ → Ruling After
 bindOf b w =
     if not (eqb (bindFault b w) noRefusal) then Gives (gives b (Refused (refusal (bindFault b w) (bindPlace (bindFault b w) w))))
     else if not (isRight (claimOn b w) (b .tables .width)) then Names (claimOn b w) (b .tables .width)
-    else Gives (gives (boundAt b (entryFor b w) w) Done)
+    else Gives (gives (boundAt b (entryFor b (sourceOf w)) w) Done)
 
 -- the answer says that a claim is wrong at width n
 abbrev pub WrongAt : Claim → ℕ → Answer → Type 0

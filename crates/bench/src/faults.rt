@@ -1,8 +1,6 @@
 // Soundness, and the refusals of a bind.
 use crate::Bench;
-use soundness::NOTHING;
 ghost use mathlib.Core.Path.{_≡_};
-ghost use mathlib.Core.Bool.{true};
 ghost use Rattle.bench.specs.Calls as C;
 
 pub fn is_sound(bench: Bench) -> bool
@@ -11,17 +9,6 @@ pub fn is_sound(bench: Bench) -> bool
     let tables = bench.tables;
     let bound = bench.bound;
     soundness::is_sound(tables, bound)
-}
-
-// Whether something is bound in the entry of a rule's source.
-fn is_taken(bench: Bench, word: u32) -> bool
-    requires { ⌜ (C.soundBench bench ≡ true) × (C.inTables bench word ≡ true) ⌝ }
-    ensures { λ r. ⌜ r ≡ C.isTaken bench word ⌝ }
-{
-    let tables = bench.tables;
-    let bound = bench.bound;
-    let entry = entries::entry_for(tables, word);
-    bound[entry] != NOTHING
 }
 
 // Refusals 20, 2, 3, 5, 6, 8 and 21 of a bind, or none.
@@ -39,7 +26,8 @@ pub fn bind_fault(bench: Bench, word: u32) -> u32
     if !entries::in_tables(tables, word) {
         return 8;
     }
-    if is_taken(bench, word) {
+    let bound = bench.bound;
+    if entries::is_bound(tables, bound, recipe::source_of(word)) {
         return 21;
     }
     words::NO_REFUSAL

@@ -94,7 +94,7 @@ impl Bench {
             };
         }
         let tables = self.tables;
-        let entry = entries::entry_for(tables, word);
+        let entry = entries::entry_for(tables, recipe::source_of(word));
         let verdict = entries::verdict_on(tables, word);
         match verdict {
             Verdict::Wrong(witness) => After {

@@ -11,6 +11,7 @@ use Rattle.words.specs.Choice.{if_then_else_}
 use Rattle.words.specs.Paper.{refusal, noRefusal, sourcePlace}
 use Rattle.words.proofs.Choices.{either}
 use Rattle.alu.specs.Function.{noFunction}
+use Rattle.recipe.specs.Fields.{sourceOf}
 use Rattle.binding.specs.Right.{isRight}
 use Rattle.binding.specs.declared.Claim.{Claim}
 use Rattle.verdict.specs.Verdicts.{Ruling, Gives, Names}
@@ -67,13 +68,13 @@ module _ (b : Bench) (w : ℕ) where
   bind-none =
       either NoWords (not (eqb (bindFault b w) noRefusal))
       {x = Gives (gives b (Refused (refusal (bindFault b w) (bindPlace (bindFault b w) w))))}
-      {y = if not (isRight (claimOn b w) (b .tables .width)) then Names (claimOn b w) (b .tables .width) else Gives (gives (boundAt b (entryFor b w) w) Done)}
+      {y = if not (isRight (claimOn b w) (b .tables .width)) then Names (claimOn b w) (b .tables .width) else Gives (gives (boundAt b (entryFor b (sourceOf w)) w) Done)}
       (λ _. given-none (gives b (Refused (refusal (bindFault b w) (bindPlace (bindFault b w) w)))) refl)
       (λ _.
       either NoWords (not (isRight (claimOn b w) (b .tables .width)))
-      {x = Names (claimOn b w) (b .tables .width)} {y = Gives (gives (boundAt b (entryFor b w) w) Done)}
+      {x = Names (claimOn b w) (b .tables .width)} {y = Gives (gives (boundAt b (entryFor b (sourceOf w)) w) Done)}
       (λ _. λ r h. wrong-none (claimOn b w) (b .tables .width) (r .answer) (h .1))
-      (λ _. given-none (gives (boundAt b (entryFor b w) w) Done) refl))
+      (λ _. given-none (gives (boundAt b (entryFor b (sourceOf w)) w) Done) refl))
 
   pub bind-within : (lent : List ℕ) (r : After) → Binds b w r → wordsFinished (r .answer) ≤ length lent
   bind-within lent r h = omega (arith, bind-none r h)

@@ -1,9 +1,9 @@
 // Rules that bind refuses, and some that it binds.
-use crate::calls;
-use crate::calls::Told;
-use crate::files::bench_with;
-use crate::files::same_bench;
-use crate::lines;
+use bench_calls::calls;
+use bench_calls::calls::Told;
+use bench_calls::files::bench_with;
+use bench_calls::files::same_bench;
+use bench_calls::lines;
 use reference::answer::NOT_SHOWN;
 use testing::names::name_at;
 use testing::say;

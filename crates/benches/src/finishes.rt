@@ -1,9 +1,9 @@
 // Benches that finish and price refuse, and one that they take, with lent words of several lengths.
-use crate::calls;
-use crate::calls::Told;
-use crate::files::bench_with;
-use crate::files::same_bench;
-use crate::lines;
+use bench_calls::calls;
+use bench_calls::calls::Told;
+use bench_calls::files::bench_with;
+use bench_calls::files::same_bench;
+use bench_calls::lines;
 use testing::names::name_at;
 use testing::say;
 

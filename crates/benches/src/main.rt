@@ -2,10 +2,7 @@
 // and benches spoilt in a bit or a word, beside the reference's account of which benches are sound. The lines that show an answer are
 // compared with those that document 01 asks for. The program is a test, so its contracts say only what safety needs.
 mod binds;
-mod calls;
-mod files;
 mod finishes;
-mod lines;
 mod opens;
 mod orders;
 mod printed;

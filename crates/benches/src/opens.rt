@@ -1,8 +1,8 @@
 // Jobs that open refuses, and some at the edge that it does not.
-use crate::calls;
-use crate::files::bench_with;
-use crate::files::same_bench;
-use crate::lines;
+use bench_calls::calls;
+use bench_calls::files::bench_with;
+use bench_calls::files::same_bench;
+use bench_calls::lines;
 use testing::names::name_at;
 use testing::say;
 use testing::words::JOB;

@@ -1,12 +1,12 @@
 // The printed job bound in every order.
-use crate::calls;
-use crate::files::ALL;
-use crate::files::RULES;
-use crate::files::bench_with;
-use crate::files::same_bench;
 use crate::runs::Run;
 use crate::runs::begun;
 use crate::runs::with_bound;
+use bench_calls::calls;
+use bench_calls::files::ALL;
+use bench_calls::files::RULES;
+use bench_calls::files::bench_with;
+use bench_calls::files::same_bench;
 use reference::answer::WRITTEN;
 use reference::answer::answered;
 use reference::answer::same_answer;

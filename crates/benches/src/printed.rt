@@ -1,8 +1,8 @@
 // The printed job bound in the order of its sources, priced after each call, finished and checked.
-use crate::calls;
-use crate::calls::Told;
-use crate::files::RULES;
-use crate::lines;
+use bench_calls::calls;
+use bench_calls::calls::Told;
+use bench_calls::files::RULES;
+use bench_calls::lines;
 use reference::answer::DONE;
 use reference::answer::PRICED;
 use reference::answer::answered;

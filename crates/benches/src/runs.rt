@@ -1,11 +1,11 @@
 // The printed job bound again, with calls that are refused before and after each bind.
-use crate::calls;
-use crate::calls::Told;
-use crate::files::RULES;
-use crate::files::WRONG_LT_RULE;
-use crate::files::same_bench;
-use crate::lines;
 use crate::orders::writes_the_mapping;
+use bench_calls::calls;
+use bench_calls::calls::Told;
+use bench_calls::files::RULES;
+use bench_calls::files::WRONG_LT_RULE;
+use bench_calls::files::same_bench;
+use bench_calls::lines;
 use reference::answer::DONE;
 use reference::answer::OF_WORD;
 use reference::answer::answered;

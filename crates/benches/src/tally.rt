@@ -1,13 +1,13 @@
 // The bench's calls on spoilt benches, beside the reference's account of which are sound.
-use crate::calls;
-use crate::calls::Told;
-use crate::files::ADD_AND_LT;
-use crate::files::RSUB_RULE;
-use crate::files::bench_with;
-use crate::files::inhibit_bench;
-use crate::files::same_bench;
-use crate::files::whole_bench;
 use accounts::sound::is_sound;
+use bench_calls::calls;
+use bench_calls::calls::Told;
+use bench_calls::files::ADD_AND_LT;
+use bench_calls::files::RSUB_RULE;
+use bench_calls::files::bench_with;
+use bench_calls::files::inhibit_bench;
+use bench_calls::files::same_bench;
+use bench_calls::files::whole_bench;
 use reference::answer::OF_WORD;
 use reference::answer::PRICED;
 use reference::answer::answered;

@@ -10,13 +10,15 @@ use lib.Seq.{getD-set-same, getD-set-other, set-comm}
 use borrow.Author.Tests.{eq-eqb, eqb-true, eqb-false, not-true, not-false}
 use Rattle.words.specs.Paper.{Paper, accepted}
 use Rattle.words.proofs.Choices.{either}
+use Rattle.recipe.specs.Fields.{sourceOf}
 use Rattle.binding.specs.Right.{isRight}
 use Rattle.binding.specs.declared.Claim.{Claim}
 use Rattle.verdict.specs.Verdicts.{Ruling, Gives}
 use Rattle.sequence.specs.Limits.{mostSources}
 use Rattle.soundness.specs.Sound.{ruleFault}
 use Rattle.soundness.proofs.Soundness.{sound-sources}
-use Rattle.bench.specs.Calls.{soundBench, holding, gives, entryFor, boundAt, isTaken, bindFault, claimOn, bindOf, WrongAt, BindRuled, Binds, paperOf}
+use Rattle.entries.specs.Entries.{isBound}
+use Rattle.bench.specs.Calls.{soundBench, holding, gives, entryFor, hasBinding, boundAt, bindFault, claimOn, bindOf, WrongAt, BindRuled, Binds, paperOf}
 use Rattle.bench.specs.declared.Bench.{Bench}
 use Rattle.bench.specs.declared.Answer.{Answer}
 use Rattle.bench.specs.declared.Answer.the-variants.{Done, Count, Mapping, Refused, Wrong}
@@ -31,7 +33,7 @@ pub record Allowed (b : Bench) (w : ℕ) : Type 0 where
 
 -- the bench after a word is bound
 abbrev pub boundOn : Bench → ℕ → Bench
-boundOn b w = boundAt b (entryFor b w) w
+boundOn b w = boundAt b (entryFor b (sourceOf w)) w
 
 -- ---- the answer
 
@@ -79,19 +81,19 @@ pub rule-some : (w : ℕ) → ruleFault w ≡ 0 → w ≡ 0 → ⊥
 unfolding ruleFault
 rule-some w h e = let z : ruleFault 0 ≡ 0 = ap ruleFault (sym e) ∙ h in omega arith
 
-pub nothing-there : (b : Bench) (w : ℕ) → isTaken b w ≡ false → getD (b .bound) (entryFor b w) 0 ≡ 0
-unfolding isTaken
-nothing-there b w h = eqb-true (getD (b .bound) (entryFor b w) 0) 0 (not-false (eqb (getD (b .bound) (entryFor b w) 0) 0) h)
+pub nothing-there : (b : Bench) (f : ℕ) → hasBinding b f ≡ false → getD (b .bound) (entryFor b f) 0 ≡ 0
+unfolding isBound
+nothing-there b f h = eqb-true (getD (b .bound) (entryFor b f) 0) 0 (not-false (eqb (getD (b .bound) (entryFor b f) 0) 0) h)
 
-pub not-taken : (b : Bench) (w : ℕ) → getD (b .bound) (entryFor b w) 0 ≡ 0 → isTaken b w ≡ false
-unfolding isTaken
-not-taken b w h = rw (eq-eqb (getD (b .bound) (entryFor b w) 0) 0 h) refl
+pub not-bound : (b : Bench) (f : ℕ) → getD (b .bound) (entryFor b f) 0 ≡ 0 → hasBinding b f ≡ false
+unfolding isBound
+not-bound b f h = rw (eq-eqb (getD (b .bound) (entryFor b f) 0) 0 h) refl
 
 pub allowed-sound : (b : Bench) (w : ℕ) → Allowed b w → soundBench (boundOn b w) ≡ true
 allowed-sound b w a = bound-sound b w (a .unrefused) (a .right)
 
 module _ (b : Bench) (n : length (b .bound) ≡ mostSources) (x y : ℕ) (a : Allowed b x) (c : Allowed (boundOn b x) y) where
-  within : entryFor b x < length (b .bound)
+  within : entryFor b (sourceOf x) < length (b .bound)
   within =
       omega (
         arith,
@@ -100,15 +102,15 @@ module _ (b : Bench) (n : length (b .bound) ≡ mostSources) (x y : ℕ) (a : Al
         sound-sources (b .tables) (b .bound) (a .unrefused .sound),
       )
 
-  there-empty : getD (set (b .bound) (entryFor b x) x) (entryFor b y) 0 ≡ 0
-  there-empty = nothing-there (boundOn b x) y (c .unrefused .free)
+  there-empty : getD (set (b .bound) (entryFor b (sourceOf x)) x) (entryFor b (sourceOf y)) 0 ≡ 0
+  there-empty = nothing-there (boundOn b x) (sourceOf y) (c .unrefused .free)
 
   -- the second would find the first in its entry
-  apart : entryFor b y ≡ entryFor b x → ⊥
+  apart : entryFor b (sourceOf y) ≡ entryFor b (sourceOf x) → ⊥
   apart e =
       rule-some x (a .unrefused .a-rule)
-      (sym (getD-set-same (b .bound) (entryFor b x) x 0 within)
-      ∙ ap (λ (i : ℕ). getD (set (b .bound) (entryFor b x) x) i 0) (sym e)
+      (sym (getD-set-same (b .bound) (entryFor b (sourceOf x)) x 0 within)
+      ∙ ap (λ (i : ℕ). getD (set (b .bound) (entryFor b (sourceOf x)) x) i 0) (sym e)
       ∙ there-empty)
 
   pub second-first : Allowed b y
@@ -118,7 +120,7 @@ module _ (b : Bench) (n : length (b .bound) ≡ mostSources) (x y : ℕ) (a : Al
           sound = a .unrefused .sound;
           a-rule = c .unrefused .a-rule;
           there = c .unrefused .there;
-          free = not-taken b y (sym (getD-set-other (b .bound) (entryFor b x) (entryFor b y) x 0 apart) ∙ there-empty);
+          free = not-bound b (sourceOf y) (sym (getD-set-other (b .bound) (entryFor b (sourceOf x)) (entryFor b (sourceOf y)) x 0 apart) ∙ there-empty);
         };
         right = c .right;
       }
@@ -131,13 +133,13 @@ module _ (b : Bench) (n : length (b .bound) ≡ mostSources) (x y : ℕ) (a : Al
           a-rule = a .unrefused .a-rule;
           there = a .unrefused .there;
           free =
-              not-taken (boundOn b y) x
-              (getD-set-other (b .bound) (entryFor b y) (entryFor b x) y 0 (λ e. apart (sym e))
-              ∙ nothing-there b x (a .unrefused .free));
+              not-bound (boundOn b y) (sourceOf x)
+              (getD-set-other (b .bound) (entryFor b (sourceOf y)) (entryFor b (sourceOf x)) y 0 (λ e. apart (sym e))
+              ∙ nothing-there b (sourceOf x) (a .unrefused .free));
         };
         right = a .right;
       }
 
   pub same-bench : boundOn (boundOn b x) y ≡ boundOn (boundOn b y) x
   same-bench =
-      ap (holding b) (set-comm (b .bound) (entryFor b x) (entryFor b y) x y (λ e. apart (sym e)))
+      ap (holding b) (set-comm (b .bound) (entryFor b (sourceOf x)) (entryFor b (sourceOf y)) x y (λ e. apart (sym e)))

@@ -36,7 +36,7 @@ use Rattle.demands.proofs.Chosen.{one-each, chosen-rule, chosen-bindabl
 use Rattle.demands.proofs.Accepted.{source-listed}
 use Rattle.demands.proofs.Sources.{sources-rise}
 use Rattle.demands.proofs.OpenedSound.{source-count}
-use Rattle.demands.proofs.Allowed.{Allowed, Outcome, Bound, Unchanged, outcome, boundOn, allowed-gives, allowed-sound, not-taken, second-first, first-second, same-bench}
+use Rattle.demands.proofs.Allowed.{Allowed, Outcome, Bound, Unchanged, outcome, boundOn, allowed-gives, allowed-sound, not-bound, second-first, first-second, same-bench}
 use Rattle.demands.proofs.Benches.{bound-of-job, opened-of-job, same-sources, same-targets}
 
 -- ---- the same, said of the bench: no refusal holds at any of them
@@ -147,7 +147,7 @@ module _ (ws : List ℕ) (job : Job) (e : WellFormedJob ws job) (bound : List �
         source-at ws job k (omega (arith, size)),
       )
 
-  its-entry : (k : ℕ) → k < length bound → entryFor (opened ws job) (getD bound k 0) ≡ k
+  its-entry : (k : ℕ) → k < length bound → entryFor (opened ws job) (sourceOf (getD bound k 0)) ≡ k
   its-entry k h =
       ap₂ entryOf (same-sources ws job e) (its-source k h)
       ∙ entry-of (sourcesOf ws job) k (omega (arith, size, source-count ws job e)) (sources-apart k h)
@@ -171,7 +171,7 @@ module _ (ws : List ℕ) (job : Job) (e : WellFormedJob ws job) (bound : List �
               in-job-when (sourcesOn (tablesIn ws job)) (targetsOn (tablesIn ws job)) w
               (ap (λ (l : List ℕ). listsSource l (sourceOf w)) (same-sources ws job e) ∙ source-listed ws job e bound choice k h)
               (ap (λ (l : List ℕ). hasTarget l w) (same-targets ws job e) ∙ choice .has-target k h);
-          free = not-taken b w (ap (λ (i : ℕ). getD held i 0) (its-entry k h) ∙ free);
+          free = not-bound b (sourceOf w) (ap (λ (i : ℕ). getD held i 0) (its-entry k h) ∙ free);
         };
         right = choice .is-right k h;
       }
@@ -186,7 +186,7 @@ module _ (ws : List ℕ) (job : Job) (e : WellFormedJob ws job) (bound : List �
       let n : k + suc (length ys) ≡ length bound = sym (length-append xs (y ∷ ys)) ∙ ap length p in
       let few : k < mostSources = omega (arith, size, facts .sources-most) in
       let word : getD bound k 0 ≡ y = ap (λ (l : List ℕ). getD l k 0) (sym p) ∙ getD-append-seam xs y ys 0 in
-      let entry : entryFor b y ≡ k = ap (entryFor b) (sym word) ∙ its-entry k (omega arith) in
+      let entry : entryFor b (sourceOf y) ≡ k = ap (λ (x : ℕ). entryFor b (sourceOf x)) (sym word) ∙ its-entry k (omega arith) in
       let allowed : Allowed b y = subst (Allowed b) word (choice-allowed (tableOf mostSources xs) s k (omega arith) (next-empty xs few)) in
       let after : boundOn b y ≡ holding (opened ws job) (tableOf mostSources (xs ++ y ∷ [])) =
       ap (λ (i : ℕ). boundAt b i y) entry ∙ ap (holding (opened ws job)) (next-filled xs few y) in

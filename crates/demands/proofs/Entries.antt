@@ -54,15 +54,15 @@ adds b h w a =
     let there = tables-entry b w (a .unrefused .there) in
     let size = sources-taken b h few in
     record {
-      entry = entryFor b w;
+      entry = entryFor b (sourceOf w);
       within = omega arith;
       its-source =
           entry-source (sourcesOn (b .tables)) (sourceOf w)
           (in-job-parts (sourcesOn (b .tables)) (targetsOn (b .tables)) w (a .unrefused .there) .0);
-      was-empty = nothing-there b w (a .unrefused .free);
-      holds-it = getD-set-same (b .bound) (entryFor b w) w 0 (omega (arith, h .bound-entries));
-      others-same = λ k other. getD-set-other (b .bound) (entryFor b w) k w 0 other;
-      entries-same = length-set (b .bound) (entryFor b w) w;
+      was-empty = nothing-there b (sourceOf w) (a .unrefused .free);
+      holds-it = getD-set-same (b .bound) (entryFor b (sourceOf w)) w 0 (omega (arith, h .bound-entries));
+      others-same = λ k other. getD-set-other (b .bound) (entryFor b (sourceOf w)) k w 0 other;
+      entries-same = length-set (b .bound) (entryFor b (sourceOf w)) w;
       tables-same = refl;
     }
 

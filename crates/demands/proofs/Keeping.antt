@@ -59,13 +59,13 @@ module _ (n : ℕ) (all ts : List ℕ) (w : ℕ) (rule : ruleFault w ≡ 0) (tar
 
 -- what was bound is sound
 pub bound-sound : (b : Bench) (w : ℕ) → Checked b w → isRight (claimOn b w) (b .tables .width) ≡ true
-    → soundBench (boundAt b (entryFor b w) w) ≡ true
+    → soundBench (boundAt b (entryFor b (sourceOf w)) w) ≡ true
 bound-sound b w c right =
     let s = sound-holds (b .tables) (b .bound) (c .sound) in
     let ss = sourcesOn (b .tables) in
     let ts = targetsOn (b .tables) in
     let t = in-job-parts ss ts w (c .there) in
-    sound-when (b .tables) (set (b .bound) (entryFor b w) w)
+    sound-when (b .tables) (set (b .bound) (entryFor b (sourceOf w)) w)
     (record {
       tables = s .tables;
       past-sources = s .past-sources;

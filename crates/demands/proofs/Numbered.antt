@@ -13,6 +13,7 @@ use Rattle.words.specs.declared.Refusal.{Refusal}
 use Rattle.words.proofs.Choices.{either}
 use Rattle.alu.specs.Function.{noFunction}
 use Rattle.layout.specs.Layout.{laidOut, readsUndriven, showsOther, recipeFault}
+use Rattle.recipe.specs.Fields.{sourceOf}
 use Rattle.binding.specs.declared.Claim.{Claim}
 use Rattle.verdict.specs.Verdicts.{Ruling, Gives, Names, Sentence, Refuses, Decides, Passes, judgementPaper}
 use Rattle.verdict.specs.declared.Verdict.the-variants as verdict
@@ -34,7 +35,7 @@ use Rattle.checker.specs.declared.Checked.{Checked}
 use Rattle.checker.specs.declared.Checked.the-variants as checked
 use Rattle.rightness.proofs.Judging.{right-or-named}
 use Rattle.soundness.specs.Sound.{ruleFault}
-use Rattle.bench.specs.Calls.{soundBench, inTables, isTaken, bindFault, WrongAt, BindRuled}
+use Rattle.bench.specs.Calls.{soundBench, inTables, hasBinding, bindFault, WrongAt, BindRuled}
 use Rattle.bench.specs.Calls as bench
 use Rattle.bench.specs.declared.Bench.{Bench}
 use Rattle.bench.specs.declared.Answer as bench-answer
@@ -213,7 +214,7 @@ module _ (b : Bench) (w : ℕ) where
       (λ _. either P (not (eqb (ruleFault w) noRefusal))
       (λ _. either P (not (eqb (kindOf w) RULE)) (λ _ _. refl)
       (λ _. recipe-number P w (λ _. refl) (λ _. refl) (λ _. refl) (λ e. sym e)))
-      (λ _. either P (not (inTables b w)) (λ _ _. refl) (λ _. either P (isTaken b w) (λ _ _. refl) (λ _ e. sym e))))
+      (λ _. either P (not (inTables b w)) (λ _ _. refl) (λ _. either P (hasBinding b (sourceOf w)) (λ _ _. refl) (λ _ e. sym e))))
 
   pub bind-names : (c : Claim) (n : ℕ) → Binding (Names c n)
   bind-names c n =

@@ -1,12 +1,14 @@
--- What sound tables are asked for: their words within their entries, the entry of a recipe, the price of what is bound.
-use mathlib.Core.Path.{_≡_, ap, _∙_}
-use mathlib.Core.Bool.{true}
+-- What sound tables are asked for: their words within their entries, the entry of a function and what is bound there, the price of what is
+-- bound.
+use mathlib.Core.Path.{_≡_, refl, ap, _∙_}
+use mathlib.Core.Bool.{true, false, not}
 use mathlib.Core.List.{List}
 use Prim.Native.Nat.{ℕ, _≤_}
 use native.Mathlib.Omega.{arith}
+use lib.Dec.{eqb}
+use lib.ListN.{length, getD, List·getD-eq-default}
 use Rattle.words.specs.declared.Prices.{Prices}
 use Rattle.bits.specs.Asked.{Width}
-use Rattle.recipe.specs.Fields.{sourceOf}
 use Rattle.sequence.specs.Limits.{mostSources, mostTargets}
 use Rattle.usage.specs.Sets.{usage}
 use Rattle.glue.specs.Glue.{glue}
@@ -17,7 +19,7 @@ use Rattle.soundness.specs.Sound.{filled, sourcesOn, tablesSound}
 use Rattle.soundness.specs.declared.Tables.{Tables}
 use Rattle.soundness.proofs.Shapes.{sources-few}
 use Rattle.soundness.proofs.Soundness.{counted}
-use Rattle.entries.specs.Entries.{entryOf}
+use Rattle.entries.specs.Entries.{entryOf, isBound}
 use Rattle.entries.proofs.Searching.{entry-most}
 
 module _ (t : Tables) (s : tablesSound t ≡ true) where
@@ -30,12 +32,20 @@ module _ (t : Tables) (s : tablesSound t ≡ true) where
   pub few-targets : t .ntargets ≤ mostTargets
   few-targets = counted t s .few-targets
 
-module _ (t : Tables) (w f i : ℕ) (ef : f ≡ sourceOf w) (ei : i ≡ entryOf (sourcesOn t) f) where
-  pub entry-of-source : i ≡ entryOf (sourcesOn t) (sourceOf w)
-  entry-of-source = ei ∙ ap (entryOf (sourcesOn t)) ef
+pub entry-few : (t : Tables) (f i : ℕ) → i ≡ entryOf (sourcesOn t) f → TablesShaped t → tablesSound t ≡ true → i ≤ mostSources
+entry-few t f i ei h s = omega (arith, ei, entry-most (sourcesOn t) f, sources-few t h (few-sources t s))
 
-  pub entry-few : TablesShaped t → tablesSound t ≡ true → i ≤ mostSources
-  entry-few h s = omega (arith, ei, entry-most (sourcesOn t) f, sources-few t h (few-sources t s))
+-- ---- whether something is bound
+
+module _ (t : Tables) (bound : List ℕ) (f i : ℕ) (ei : (i ≡ entryOf (sourcesOn t) f) × (i ≤ mostSources)) where
+  pub bound-there : not (eqb (getD bound i 0) 0) ≡ isBound (sourcesOn t) bound f
+  unfolding isBound
+  bound-there = ap (λ (x : ℕ). not (eqb (getD bound x 0) 0)) (ei .0)
+
+  -- there is no entry past the last
+  pub bound-nowhere : length bound ≡ mostSources → mostSources ≤ i → false ≡ isBound (sourcesOn t) bound f
+  unfolding isBound
+  bound-nowhere n h = rw (← ei .0, List·getD-eq-default bound 0 {n = i} (omega arith)) refl
 
 pub counted-glue : (n : ℕ) (p : Prices) (bound : List ℕ) (u r : ℕ) → u ≡ usage (filled bound) → (r ≡ setCount n p u) × (r ≤ 612000)
     → r ≡ glue n p (filled bound)

@@ -2,12 +2,12 @@
 mod search;
 
 use sequence::MOST_SOURCES;
+use soundness::NOTHING;
 use soundness::Tables;
 use verdict::Verdict;
 ghost use mathlib.Core.Path.{_≡_};
 ghost use mathlib.Core.Bool.{true};
 ghost use Prim.Native.Nat.{_≤_, _<_, _^_};
-ghost use Rattle.recipe.specs.Fields as F;
 ghost use Rattle.sequence.specs.Limits.{mostSources};
 ghost use Rattle.verdict.specs.Verdicts as D;
 ghost use Rattle.table.specs.Table as T;
@@ -28,14 +28,26 @@ pub fn in_tables(tables: Tables, word: u32) -> bool
     table::in_job(&sources[..nsources], &targets[..ntargets], word)
 }
 
-// The entry of a rule's source.
-pub fn entry_for(tables: Tables, word: u32) -> usize
+// The entry of the source whose function it is, or the number of sources.
+pub fn entry_for(tables: Tables, function: u32) -> usize
     requires { ⌜ S.tablesSound tables ≡ true ⌝ }
-    ensures { λ r. ⌜ (r ≡ E.entryOf (S.sourcesOn tables) (F.sourceOf word)) × (r ≤ mostSources) ⌝ }
+    ensures { λ r. ⌜ (r ≡ E.entryOf (S.sourcesOn tables) function) × (r ≤ mostSources) ⌝ }
 {
     let sources = tables.sources;
     let nsources = tables.nsources as usize;
-    search::entry_of(&sources[..nsources], recipe::source_of(word))
+    search::entry_of(&sources[..nsources], function)
+}
+
+// Whether something is bound to a function.
+pub fn is_bound(tables: Tables, bound: [u32; MOST_SOURCES], function: u32) -> bool
+    requires { ⌜ S.tablesSound tables ≡ true ⌝ }
+    ensures { λ r. ⌜ r ≡ E.isBound (S.sourcesOn tables) bound function ⌝ }
+{
+    let entry = entry_for(tables, function);
+    if entry < MOST_SOURCES {
+        return bound[entry] != NOTHING;
+    }
+    false
 }
 
 // The verdict on a rule under the tables: refusal 10.

@@ -1,6 +1,6 @@
 -- `entries::entry_for` meets its contract.
 use borrow.Author.Needs.{needs}
-use Rattle.entries.proofs.Tabled.{few-sources, entry-of-source, entry-few}
+use Rattle.entries.proofs.Tabled.{few-sources, entry-few}
 use Rattle.soundness.proofs.Shapes.{tables-shaped, sources-fit, sources-taken}
 use Rattle.entries.proofs.entry_for.Statement.{statement}
 use Rattle.entries.proofs.entry_for.Tie as tie
@@ -14,14 +14,11 @@ array-share-prefix-sources c = search (tables-shaped, few-sources, sources-fit)
 slice-aggregate-entry-of : tie.Need-slice-aggregate-entry-of
 slice-aggregate-entry-of c = search (tables-shaped, few-sources, sources-taken)
 
-source-of-requires : tie.Need-source-of-requires
-source-of-requires c κs = search needs
-
 entry-of-requires : tie.Need-entry-of-requires
 entry-of-requires c κs = search needs
 
 returns : tie.Need-returns
-returns c = (search entry-of-source, search (tables-shaped, entry-few))
+returns c = (search needs, search (tables-shaped, entry-few))
 
 pub entry-for-spec : {M : Type 1} → statement M
 entry-for-spec =
@@ -30,6 +27,5 @@ entry-for-spec =
     cast-nsources
     array-share-prefix-sources
     slice-aggregate-entry-of
-    source-of-requires
     entry-of-requires
     returns)

@@ -14,6 +14,9 @@ bind-place-requires c κs = search needs
 returns : tie.Need-returns
 returns c = search bind-refused
 
+source-of-requires : tie.Need-source-of-requires
+source-of-requires c κs = search needs
+
 entry-for-requires : tie.Need-entry-for-requires
 entry-for-requires c κs = search checked-tables
 
@@ -45,6 +48,7 @@ bind-spec =
     bind-fault-requires
     bind-place-requires
     returns
+    source-of-requires
     entry-for-requires
     verdict-on-requires
     enum-known-verdict

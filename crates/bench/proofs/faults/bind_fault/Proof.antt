@@ -1,6 +1,6 @@
 -- `bench::faults::bind_fault` meets its contract.
 use borrow.Author.Needs.{needs}
-use Rattle.bench.proofs.Binds.{is-sound, tables-sound, bind-unsound, bad-word, bind-absent, source-there, bind-taken, bind-free}
+use Rattle.bench.proofs.Binds.{tables-sound, bind-unsound, bad-word, bind-absent, bind-taken, bind-free}
 use Rattle.bench.proofs.faults.bind_fault.Statement.{statement}
 use Rattle.bench.proofs.faults.bind_fault.Tie as tie
 
@@ -22,8 +22,11 @@ in-tables-requires c κs = search tables-sound
 returns-3 : tie.Need-returns-3
 returns-3 c = search bind-absent
 
-is-taken-requires : tie.Need-is-taken-requires
-is-taken-requires c κs = (search is-sound, search source-there)
+source-of-requires : tie.Need-source-of-requires
+source-of-requires c κs = search needs
+
+is-bound-requires : tie.Need-is-bound-requires
+is-bound-requires c κs = search tables-sound
 
 returns-4 : tie.Need-returns-4
 returns-4 c = search bind-taken
@@ -41,6 +44,7 @@ bind-fault-spec =
     returns-2
     in-tables-requires
     returns-3
-    is-taken-requires
+    source-of-requires
+    is-bound-requires
     returns-4
     returns-5)

@@ -1,9 +1,9 @@
--- `benches::files::lent_holds` meets its contract.
+-- `bench_calls::files::lent_holds` meets its contract.
 use Prim.Native.Nat.{_≤_, _-_}
 use lib.ListN.{length}
 use borrow.Author.Needs.{needs}
-use Rattle.benches.proofs.files.lent_holds.Statement.{statement}
-use Rattle.benches.proofs.files.lent_holds.Tie as tie
+use Rattle.bench_calls.proofs.files.lent_holds.Statement.{statement}
+use Rattle.bench_calls.proofs.files.lent_holds.Tie as tie
 
 abbrev Inv-loop : tie.InvT-loop
 Inv-loop lent size i₀ t5 i = i ≤ length lent

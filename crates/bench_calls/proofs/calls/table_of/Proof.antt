@@ -1,8 +1,8 @@
--- `benches::calls::table_of` meets its contract.
+-- `bench_calls::calls::table_of` meets its contract.
 use Prim.Native.Nat.{_≤_, _-_}
 use borrow.Author.Needs.{needs}
-use Rattle.benches.proofs.calls.table_of.Statement.{statement}
-use Rattle.benches.proofs.calls.table_of.Tie as tie
+use Rattle.bench_calls.proofs.calls.table_of.Statement.{statement}
+use Rattle.bench_calls.proofs.calls.table_of.Tie as tie
 
 abbrev Inv-loop : tie.InvT-loop
 Inv-loop from words table₀ i₀ table i = i ≤ 27

@@ -1,10 +1,10 @@
--- `benches::files::bind_set` meets its contract.
+-- `bench_calls::files::bind_set` meets its contract.
 use Prim.Native.Nat.{_≤_, _-_}
 use lib.ListN.{length}
 use mathlib.Core.Path.{_≡_}
 use borrow.Author.Needs.{needs}
-use Rattle.benches.proofs.files.bind_set.Statement.{statement}
-use Rattle.benches.proofs.files.bind_set.Tie as tie
+use Rattle.bench_calls.proofs.files.bind_set.Statement.{statement}
+use Rattle.bench_calls.proofs.files.bind_set.Tie as tie
 
 abbrev Inv-loop : tie.InvT-loop
 Inv-loop words₀ bound rest₀ i₀ words rest i = (i ≤ 4) × (length words ≡ length words₀)

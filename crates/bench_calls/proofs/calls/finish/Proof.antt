@@ -1,10 +1,10 @@
--- `benches::calls::finish` meets its contract.
+-- `bench_calls::calls::finish` meets its contract.
 use lib.Seq.{length-take-le}
 use mathlib.Core.Path.{sym}
 use native.Mathlib.Omega.{arith}
 use borrow.Author.Needs.{needs}
-use Rattle.benches.proofs.calls.finish.Statement.{statement}
-use Rattle.benches.proofs.calls.finish.Tie as tie
+use Rattle.bench_calls.proofs.calls.finish.Statement.{statement}
+use Rattle.bench_calls.proofs.calls.finish.Tie as tie
 
 array-borrow-prefix-lent : tie.Need-array-borrow-prefix-lent
 array-borrow-prefix-lent c = search needs

@@ -1,8 +1,8 @@
--- `benches::files::same_bench` meets its contract.
+-- `bench_calls::files::same_bench` meets its contract.
 use Prim.Native.Nat.{_≤_, _-_}
 use borrow.Author.Needs.{needs}
-use Rattle.benches.proofs.files.same_bench.Statement.{statement}
-use Rattle.benches.proofs.files.same_bench.Tie as tie
+use Rattle.bench_calls.proofs.files.same_bench.Statement.{statement}
+use Rattle.bench_calls.proofs.files.same_bench.Tie as tie
 
 abbrev Inv-loop : tie.InvT-loop
 Inv-loop one other i₀ i = i ≤ 87
