@@ -1,4 +1,5 @@
--- Document 01, "Mapper and bench" and "Refusals that come from the state": what each call answers, and the bench afterwards.
+-- Document 01, "Mapper and bench" and "Refusals that come from the state", and request #102: what each call answers, and the bench
+-- afterwards.
 use Prim.Native.Nat.{ℕ}
 use mathlib.Core.Path.{_≡_}
 use mathlib.Core.Bool.{Bool, not}
@@ -128,6 +129,14 @@ BindRuled b (Names c n) r = (r .bench ≡ b) × WrongAt c n (r .answer)
 
 abbrev pub Binds : Bench → ℕ → After → Type 0
 Binds b w r = BindRuled b (bindOf b w) r
+
+-- ---- release: 20, then "24, the function to be released has no binding (place: function)"
+
+unfoldable pub releaseOf : Bench → ℕ → After
+releaseOf b f =
+    if not (soundBench b) then gives b (Refused (refusal 20 0))
+    else if not (hasBinding b f) then gives b (Refused (refusal 24 (sourcePlace f)))
+    else gives (boundAt b (entryFor b f) nothing) Done
 
 -- ---- price: 20, then the count
 

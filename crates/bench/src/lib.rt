@@ -21,7 +21,8 @@ pub struct Bench {
     pub bound: [u32; MOST_SOURCES],
 }
 
-// What a call answers: a job opened or a rule bound; a price; how many words were written; a refusal; or refusal 10 with its values.
+// What a call answers: a job opened, a rule bound or a binding taken off; a price; how many words were written; a refusal; or refusal 10
+// with its values.
 pub enum Answer {
     Done,
     Count(u32),
@@ -108,6 +109,39 @@ impl Bench {
                     answer: Answer::Done,
                 }
             }
+        }
+    }
+
+    // Takes the binding of a function off: refusals 20, 24.
+    pub fn release(mut self, function: u32) -> After
+        ensures { λ r. ⌜ r ≡ C.releaseOf self function ⌝ }
+    {
+        let sound = faults::is_sound(self);
+        if !sound {
+            return After {
+                bench: self,
+                answer: Answer::Refused(Refusal {
+                    number: 20,
+                    place: 0,
+                }),
+            };
+        }
+        let tables = self.tables;
+        let bound = self.bound;
+        if !entries::is_bound(tables, bound, function) {
+            return After {
+                bench: self,
+                answer: Answer::Refused(Refusal {
+                    number: 24,
+                    place: function as usize,
+                }),
+            };
+        }
+        let entry = entries::entry_for(tables, function);
+        self.bound[entry] = NOTHING;
+        After {
+            bench: self,
+            answer: Answer::Done,
         }
     }
 

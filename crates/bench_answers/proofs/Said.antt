@@ -17,7 +17,7 @@ use Rattle.commands.specs.declared.Command.{Command}
 use Rattle.commands.specs.declared.Command.the-variants as command
 use Rattle.soundness.specs.declared.Tables.{Tables}
 use Rattle.opening.specs.Opening.{tablesOfZeros}
-use Rattle.bench.specs.Calls.{gives, emptyBench, benchOfZeros, openOf, Binds, priceOf, finishOf, lentAfterFinish}
+use Rattle.bench.specs.Calls.{gives, emptyBench, benchOfZeros, openOf, Binds, releaseOf, priceOf, finishOf, lentAfterFinish}
 use Rattle.bench.specs.declared.Bench.{Bench}
 use Rattle.bench.specs.declared.After.{After}
 use Rattle.bench.specs.declared.Answer.{Answer}
@@ -82,6 +82,10 @@ module _ (b : Bench) (lent out after : List ℕ) (r : Worked) where
   pub says-bind : (c : Command) (w : ℕ) (call : After) → c ≡ command.Bind w → Binds b w call
       → SaysCall call (bytes "BOUND\n") lent out after r → Says c b lent lent out after r
   says-bind c w call e h s = rw e (refl, record { call = call; binds = h; said = s })
+
+  pub says-release : (c : Command) (f : ℕ) (call : After) → c ≡ command.Release f → call ≡ releaseOf b f
+      → SaysCall call (bytes "RELEASED\n") lent out after r → Says c b lent lent out after r
+  says-release c f call e h s = rw e (refl, subst (λ (x : After). SaysCall x (bytes "RELEASED\n") lent out after r) h s)
 
   pub says-price : (c : Command) (call : After) → c ≡ command.Price → call ≡ priceOf b → SaysCall call [] lent out after r
       → Says c b lent lent out after r

@@ -21,8 +21,9 @@ use Rattle.reader.specs.declared.JobRead.the-variants as read
 use Rattle.writer.specs.Write.{wordsNeeded, writtenOf}
 use Rattle.writer.specs.declared.Written.{Written}
 use Rattle.writer.specs.declared.Written.the-variants as written
+use Rattle.soundness.specs.Sound.{nothing}
 use Rattle.input.specs.declared.Input.{Input}
-use Rattle.bench.specs.Calls.{soundBench, gives, benchOfZeros, openFor, openOf, bindFault, bindPlace, claimOn, boundAt, entryFor, bindOf, WrongAt, BindRuled, Binds, glueOn, priceOf, unboundOn, finishWritten, finishOf}
+use Rattle.bench.specs.Calls.{soundBench, gives, benchOfZeros, openFor, openOf, bindFault, bindPlace, claimOn, boundAt, entryFor, hasBinding, bindOf, WrongAt, BindRuled, Binds, releaseOf, glueOn, priceOf, unboundOn, finishWritten, finishOf}
 use Rattle.bench.specs.declared.Bench.{Bench}
 use Rattle.bench.specs.declared.After.{After}
 use Rattle.bench.specs.declared.Answer.{Answer}
@@ -79,6 +80,20 @@ module _ (b : Bench) (w : ℕ) where
   pub bind-within : (lent : List ℕ) (r : After) → Binds b w r → wordsFinished (r .answer) ≤ length lent
   bind-within lent r h = omega (arith, bind-none r h)
 
+-- ---- release
+
+pub release-within : (b : Bench) (f : ℕ) (lent : List ℕ) (r : After) → r ≡ releaseOf b f → wordsFinished (r .answer) ≤ length lent
+unfolding releaseOf
+release-within b f lent r e =
+    subst (λ (x : After). wordsFinished (x .answer) ≤ length lent) (sym e)
+    (either (λ (a : After). wordsFinished (a .answer) ≤ length lent) (not (soundBench b)) {x = gives b (Refused (refusal 20 0))}
+    {y = if not (hasBinding b f) then gives b (Refused (refusal 24 (sourcePlace f))) else gives (boundAt b (entryFor b f) nothing) Done}
+    (λ _. omega arith)
+    (λ _.
+    either (λ (a : After). wordsFinished (a .answer) ≤ length lent) (not (hasBinding b f))
+    {x = gives b (Refused (refusal 24 (sourcePlace f)))} {y = gives (boundAt b (entryFor b f) nothing) Done}
+    (λ _. omega arith) (λ _. omega arith)))
+
 -- ---- price
 
 pub price-within : (b : Bench) (lent : List ℕ) (r : After) → r ≡ priceOf b → wordsFinished (r .answer) ≤ length lent
@@ -119,6 +134,9 @@ finish-within b lent after r e l =
 module _ (call : After) (done lent out after : List ℕ) (r : Worked) (s : SaysCall call done lent out after r) where
   pub bound-words : (b : Bench) (w : ℕ) (start : List ℕ) → Binds b w call → r .words ≤ length start
   bound-words b w start h = omega (arith, s .words, bind-within b w start call h)
+
+  pub released-words : (b : Bench) (f : ℕ) (start : List ℕ) → call ≡ releaseOf b f → r .words ≤ length start
+  released-words b f start h = omega (arith, s .words, release-within b f start call h)
 
   pub priced-words : (b : Bench) (start : List ℕ) → call ≡ priceOf b → r .words ≤ length start
   priced-words b start h = omega (arith, s .words, price-within b start call h)

@@ -1,4 +1,4 @@
--- What work_bench says of its job's file and of each command: OPENED, BOUND, map_job's lines, GLUE and the count, or the refusal.
+-- What work_bench says of its job's file and of each command: OPENED, BOUND, RELEASED, map_job's lines, GLUE and the count, or the refusal.
 use Prim.Native.Nat.{ℕ}
 use mathlib.Core.Path.{_≡_}
 use mathlib.Core.Bool.{Bool, true, false}
@@ -16,7 +16,7 @@ use Rattle.soundness.specs.Sound.{nothing, sourcesOn}
 use Rattle.input.specs.declared.Input.{Input}
 use Rattle.commands.specs.declared.Command.{Command}
 use Rattle.commands.specs.declared.Command.the-variants as command
-use Rattle.bench.specs.Calls.{gives, benchOfZeros, openOf, Binds, priceOf, finishOf, lentAfterFinish}
+use Rattle.bench.specs.Calls.{gives, benchOfZeros, openOf, Binds, releaseOf, priceOf, finishOf, lentAfterFinish}
 use Rattle.bench.specs.declared.Bench.{Bench}
 use Rattle.bench.specs.declared.After.{After}
 use Rattle.bench.specs.declared.Answer.{Answer}
@@ -116,6 +116,8 @@ pub record SaysBind (b : Bench) (word : ℕ) (lent out after : List ℕ) (r : Wo
 abbrev pub Says : Command → Bench → List ℕ → List ℕ → List ℕ → List ℕ → Worked → Type 0
 Says command.Pass b lent lentAfter out after r = (lentAfter ≡ lent) × SaysText [] out after b r
 Says (command.Bind w) b lent lentAfter out after r = (lentAfter ≡ lent) × SaysBind b w lent out after r
+Says (command.Release f) b lent lentAfter out after r =
+    (lentAfter ≡ lent) × SaysCall (releaseOf b f) (bytes "RELEASED\n") lent out after r
 Says command.Price b lent lentAfter out after r = (lentAfter ≡ lent) × SaysCall (priceOf b) [] lent out after r
 Says command.Show b lent lentAfter out after r = (lentAfter ≡ lent) × SaysText (benchText b) out after b r
 Says command.Finish b lent lentAfter out after r =

@@ -176,6 +176,10 @@ pub fn work(bench: Bench, command: Command, lent: &mut [u32], out: &mut [u8]) ->
             let call = bench.bind(word);
             say(call, b"BOUND\n", lent, out)
         }
+        Command::Release(function) => {
+            let call = bench.release(function);
+            say(call, b"RELEASED\n", lent, out)
+        }
         Command::Price => {
             let call = bench.price();
             say(call, b"", lent, out)

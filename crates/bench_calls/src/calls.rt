@@ -139,6 +139,11 @@ pub fn bind(words: [u32; 87], rule: u32) -> Told {
     told_by(bench.bind(rule), &[], rule)
 }
 
+pub fn release(words: [u32; 87], function: u32) -> Told {
+    let bench = bench_of(words);
+    told_by(bench.release(function), &[], 0)
+}
+
 pub fn price(words: [u32; 87]) -> Told {
     let bench = bench_of(words);
     told_by(bench.price(), &[], 0)

@@ -52,6 +52,7 @@ fn with(all: Tally, bench: [u32; 87]) -> Tally {
     let sound = is_sound(&bench);
     let fair = price_is_fair(bench, sound)
         & is_fair(calls::bind(bench, RSUB_RULE), bench, sound)
+        & is_fair(calls::release(bench, 8), bench, sound)
         & is_fair(calls::finish(bench, 29), bench, sound);
     Tally {
         tried: more(all.tried, true),

@@ -3,6 +3,7 @@ use mathlib.Core.Path.{_≡_, refl, sym, ap, _∙_}
 use mathlib.Core.Bool.{Bool, true, false}
 use mathlib.Core.List.{List, [], _∷_, _++_, append-nil, append-assoc}
 use Prim.Native.Nat.{ℕ, zero, suc, _+_, _≤_, _<_}
+use native.Mathlib.Decide.{decLt}
 use native.Mathlib.Omega.{arith}
 use borrow.Author.Tests.{ne-eqb, le-leb, lt-ltb, le-ltb, ltb-true, ltb-false}
 use lib.Dec.{eqb, leb, ltb}
@@ -14,7 +15,7 @@ use Rattle.hex.specs.Hex.{digitOf, between, ended, withDigit, digitsLeft}
 use Rattle.hex.specs.declared.Hex.{Hex}
 use Rattle.hex.specs.declared.Step.{Step}
 use Rattle.hex.specs.declared.Step.the-variants.{Bad}
-use Rattle.commands.specs.Commands.{passedOver, bindLine, commandOf, lineBytes, emptyLine, withByte, commandIn, lineOf}
+use Rattle.commands.specs.Commands.{passedOver, releaseCommand, commandWith, commandOf, lineBytes, emptyLine, withByte, commandIn, lineOf}
 use Rattle.commands.specs.declared.Line.{Line}
 
 -- ---- the start of a line is the line, to each test of it
@@ -56,10 +57,33 @@ past-start zero k line = let e : 0 + k ≡ k = omega arith in rw e refl
 past-start (suc j) k [] = ap (drop (suc j)) (take-nil (suc j + k)) ∙ sym (take-nil k)
 past-start (suc j) k (b ∷ line) = let e : suc j + k ≡ suc (j + k) = omega arith in rw e (past-start j k line)
 
-start-bind : (line : List ℕ) → bindLine (take lineBytes line) ≡ bindLine line
-unfolding bindLine
-start-bind line =
-    rw (start-of-start 5 lineBytes line (omega arith), past-start 5 27 line, digits-start 27 (between false) (drop 5 line) (omega arith)) refl
+-- more than ten digits are no function
+function-start : (k : ℕ) (digits : List ℕ) → 10 < k → releaseCommand (take k digits) ≡ releaseCommand digits
+unfolding releaseCommand
+function-start k digits h =
+    elim (decLt k (length digits)) [
+      | no l ↦ ap releaseCommand (take-all k digits (omega arith))
+      | yes l ↦
+          let n = length-take-le k digits (omega arith) in
+          rw (
+            le-ltb (length (take k digits)) 1 (omega (arith, n)),
+            lt-ltb 10 (length (take k digits)) (omega (arith, n)),
+            le-ltb (length digits) 1 (omega arith),
+            lt-ltb 10 (length digits) (omega arith),
+          ) refl
+    ]
+
+start-with : (line : List ℕ) → commandWith (take lineBytes line) ≡ commandWith line
+unfolding commandWith
+start-with line =
+    rw (
+      start-of-start 5 lineBytes line (omega arith),
+      past-start 5 27 line,
+      digits-start 27 (between false) (drop 5 line) (omega arith),
+      start-of-start 8 lineBytes line (omega arith),
+      past-start 8 24 line,
+      function-start 24 (drop 8 line) (omega arith),
+    ) refl
 
 start-means : (line : List ℕ) → commandOf (take lineBytes line) ≡ commandOf line
 unfolding commandOf
@@ -69,7 +93,7 @@ start-means line =
       same-start lineBytes line (bytes "price") (omega arith),
       same-start lineBytes line (bytes "show") (omega arith),
       same-start lineBytes line (bytes "finish") (omega arith),
-      start-bind line,
+      start-with line,
     ) refl
 
 -- ---- what is kept of a text is its start

@@ -1,17 +1,17 @@
--- The commands of work_bench: a line is one of these words, "bind " and a word's eight digits, or nothing that is a command. An empty line,
--- and one that begins with "#", is passed over.
-use Prim.Native.Nat.{ℕ, _+_}
+-- The commands of work_bench: a line is one of these words, "bind " and a word's eight digits, "release " and a function's decimal digits,
+-- or nothing that is a command. An empty line, and one that begins with "#", is passed over.
+use Prim.Native.Nat.{ℕ, _+_, _*_, _^_}
 use mathlib.Core.Bool.{Bool, true}
 use mathlib.Core.List.{List, [], _∷_}
-use lib.Dec.{eqb, ltb}
-use lib.ListN.{take, drop, set, replicate}
+use lib.Dec.{eqb, leb, ltb}
+use lib.ListN.{length, take, drop, set, replicate}
 use Rattle.words.specs.Choice.{if_then_else_}
 use Rattle.text.specs.Text.{bytes, same}
-use Rattle.hex.specs.Hex.{wordIn}
+use Rattle.hex.specs.Hex.{digitOf, wordIn}
 use Rattle.hex.specs.declared.Step.{Step}
 use Rattle.hex.specs.declared.Step.the-variants.{More, Word, Bad}
 use Rattle.commands.specs.declared.Command.{Command}
-use Rattle.commands.specs.declared.Command.the-variants.{Pass, Bind, Price, Show, Finish, Unknown}
+use Rattle.commands.specs.declared.Command.the-variants.{Pass, Bind, Release, Price, Show, Finish, Unknown}
 use Rattle.commands.specs.declared.Line.{Line}
 
 abbrev pub passedOver : List ℕ → Bool
@@ -24,8 +24,28 @@ bindCommand (Word w h) = Bind w
 bindCommand (More h) = Unknown
 bindCommand Bad = Unknown
 
-unfoldable pub bindLine : List ℕ → Command
-bindLine line = if same (take 5 line) (bytes "bind ") then bindCommand (wordIn (drop 5 line)) else Unknown
+-- a release of the function that decimal digits write, behind those of n; a number of 2^32 or more is none
+unfoldable pub digitsRelease : ℕ → List ℕ → Command
+digitsRelease n [] = if leb (2 ^ 32) n then Unknown else Release n
+digitsRelease n (b ∷ bs) = if leb 10 (digitOf b) then Unknown else digitsRelease (n * 10 + digitOf b) bs
+
+-- a release of the function whose digits stand behind it, one to ten
+unfoldable pub releaseCommand : List ℕ → Command
+releaseCommand digits =
+    if ltb (length digits) 1 then Unknown
+    else if ltb 10 (length digits) then Unknown
+    else digitsRelease 0 digits
+
+-- a line begins with a text
+abbrev pub begins : List ℕ → List ℕ → Bool
+begins line text = same (take (length text) line) text
+
+-- a command with what it is for, behind a space
+unfoldable pub commandWith : List ℕ → Command
+commandWith line =
+    if begins line (bytes "bind ") then bindCommand (wordIn (drop 5 line))
+    else if begins line (bytes "release ") then releaseCommand (drop 8 line)
+    else Unknown
 
 unfoldable pub commandOf : List ℕ → Command
 commandOf line =
@@ -33,7 +53,7 @@ commandOf line =
     else if same line (bytes "price") then Price
     else if same line (bytes "show") then Show
     else if same line (bytes "finish") then Finish
-    else bindLine line
+    else commandWith line
 
 -- ---- a line as it is read: of a long one its start, which is no command as the whole is none
 

@@ -1,6 +1,7 @@
 // The commands of work_bench: what a line means, and a line as it is read.
 use hex::Step;
 ghost use mathlib.Core.Path.{_≡_};
+ghost use mathlib.Core.List.{[]};
 ghost use Rattle.hex.specs.Hex as T;
 ghost use Rattle.commands.specs.Commands as C;
 
@@ -8,6 +9,7 @@ ghost use Rattle.commands.specs.Commands as C;
 pub enum Command {
     Pass,
     Bind(u32),
+    Release(u32),
     Price,
     Show,
     Finish,
@@ -66,15 +68,64 @@ fn bind_command(digits: &[u8]) -> Command
     }
 }
 
-// "bind " and a word's digits, or no command.
-fn bind_line(line: &[u8]) -> Command
-    ensures { λ r. ⌜ r ≡ C.bindLine (now (line .entry)) ⌝ }
+// The least number that is too large for a function's.
+const TOO_LARGE: u64 = 4294967296;
+
+// A release of the function whose decimal digits these are.
+fn release_command(digits: &[u8]) -> Command
+    ensures { λ r. ⌜ r ≡ C.releaseCommand (now (digits .entry)) ⌝ }
 {
-    if line.len() < 5 {
+    if digits.len() < 1 {
         return Command::Unknown;
     }
-    if text::same(&line[..5], b"bind ") {
+    if 10 < digits.len() {
+        return Command::Unknown;
+    }
+    let mut function: u64 = 0;
+    let mut i = 0;
+    while i < digits.len() {
+        if TOO_LARGE <= function {
+            return Command::Unknown;
+        }
+        let digit = hex::digit_of(digits[i]);
+        if 10 <= digit {
+            return Command::Unknown;
+        }
+        function = function * 10 + digit as u64;
+        i += 1;
+    }
+    release_of(function)
+}
+
+// A release, if the number is not too large.
+fn release_of(function: u64) -> Command
+    ensures { λ r. ⌜ r ≡ C.digitsRelease function [] ⌝ }
+{
+    if TOO_LARGE <= function {
+        return Command::Unknown;
+    }
+    Command::Release(function as u32)
+}
+
+fn begins(line: &[u8], text: &[u8]) -> bool
+    ensures { λ r. ⌜ r ≡ C.begins (now (line .entry)) (now (text .entry)) ⌝ }
+{
+    let length = text.len();
+    if line.len() < length {
+        return false;
+    }
+    text::same(&line[..length], text)
+}
+
+// "bind " and a word's digits, "release " and a function's, or no command.
+fn command_with(line: &[u8]) -> Command
+    ensures { λ r. ⌜ r ≡ C.commandWith (now (line .entry)) ⌝ }
+{
+    if begins(line, b"bind ") {
         return bind_command(&line[5..]);
+    }
+    if begins(line, b"release ") {
+        return release_command(&line[8..]);
     }
     Command::Unknown
 }
@@ -95,7 +146,7 @@ fn command_of(line: &[u8]) -> Command
     if text::same(line, b"finish") {
         return Command::Finish;
     }
-    bind_line(line)
+    command_with(line)
 }
 
 // What a line that was read means.

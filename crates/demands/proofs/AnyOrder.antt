@@ -111,7 +111,7 @@ module _ (xs : List ℕ) (h : length xs < mostSources) where
 
 -- ---- the entry of a source
 
-entry-of : (ss : List ℕ) (k : ℕ) → k < length ss → ((i : ℕ) → i < k → sourceFunction (getD ss i 0) ≡ sourceFunction (getD ss k 0) → ⊥)
+pub entry-of : (ss : List ℕ) (k : ℕ) → k < length ss → ((i : ℕ) → i < k → sourceFunction (getD ss i 0) ≡ sourceFunction (getD ss k 0) → ⊥)
     → entryOf ss (sourceFunction (getD ss k 0)) ≡ k
 unfolding entryOf
 entry-of [] k h apart = absurd (omega arith)

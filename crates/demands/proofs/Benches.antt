@@ -15,16 +15,17 @@ use Rattle.table.specs.Parts.{sourcesOf, targetsOf}
 use Rattle.table.specs.Table.{hasTarget}
 use Rattle.soundness.specs.Sound.{sourcesOn, targetsOn}
 use Rattle.opening.specs.Opening.{tableOf, tablesIn}
-use Rattle.bench.specs.Calls.{soundBench, holding, bindingsOn, opened, openFor, openOf, priceOf, unboundOn, finishOf}
+use Rattle.bench.specs.Calls.{soundBench, holding, bindingsOn, opened, openFor, openOf, releaseOf, priceOf, unboundOn, finishOf}
 use Rattle.bench.specs.Shape.{Shaped}
 use Rattle.bench.specs.declared.Bench.{Bench}
 use Rattle.bench.specs.declared.After.{After}
-use Rattle.demands.specs.Benches.{Reached, opening, binding, pricing, finishing, BenchOf}
+use Rattle.demands.specs.Benches.{Reached, opening, binding, releasing, pricing, finishing, BenchOf}
 use Rattle.demands.proofs.Parts.{source-at}
 use Rattle.demands.proofs.Written.{Bindable}
 use Rattle.demands.proofs.OpenedSound.{table-words, source-count, target-count, opened-sound}
 use Rattle.demands.proofs.Keeping.{bind-keeps-sound}
 use Rattle.demands.proofs.Allowed.{Outcome, Bound, Unchanged, outcome, boundOn}
+use Rattle.demands.proofs.Releasing.{Release, Released, Kept, releasedOn, release, released-sound}
 use Rattle.demands.proofs.Finished.{BoundRecipe, rule-recipe, binding-number, binding-of}
 
 module _ (ws : List ℕ) (job : Job) where
@@ -35,6 +36,16 @@ module _ (ws : List ℕ) (job : Job) where
         entries = length-set (b .bound) _ w ∙ o .entries;
         sound = s;
       }
+
+  released-of-job : (b : Bench) (f : ℕ) → BenchOf ws job b → Release b f → BenchOf ws job (releaseOf b f .bench)
+  released-of-job b f o (Released s u e) =
+      subst (λ (x : After). BenchOf ws job (x .bench)) (sym e)
+      (record {
+        as-opened = ap (λ (x : Bench). holding x (releasedOn b f .bound)) (o .as-opened);
+        entries = length-set (b .bound) _ 0 ∙ o .entries;
+        sound = released-sound b f s;
+      })
+  released-of-job b f o (Kept _ e) = subst (BenchOf ws job) (sym e) o
 
   after-bind : (b : Bench) (w : ℕ) (r : After) → BenchOf ws job b → soundBench (r .bench) ≡ true → Outcome b w r → BenchOf ws job (r .bench)
   after-bind b w r o s (Bound a e) =
@@ -56,6 +67,7 @@ module _ (ws : List ℕ) (job : Job) where
     reached-of-job b (binding {b = c} w r q a) =
         let o = reached-of-job c q in
         after-bind c w r o (bind-keeps-sound c w r a (o .sound)) (outcome c w r a)
+    reached-of-job b (releasing {b = c} f q) = released-of-job c f (reached-of-job c q) (release c f)
     reached-of-job b (pricing {b = c} q) = reached-of-job c q
     reached-of-job b (finishing {b = c} lent q) = reached-of-job c q
 

@@ -1,6 +1,6 @@
 -- The entries of a bench: where a bind puts its word, and which unbound source a refused finish names.
 use mathlib.Core.Path.{_≡_, refl, ap, _∙_}
-use mathlib.Core.Bool.{Bool, true, false, false≢true}
+use mathlib.Core.Bool.{Bool, true, false}
 use mathlib.Core.List.{List, [], _∷_}
 use Prim.Native.Nat.{ℕ, zero, suc, _+_, _≤_, _<_}
 use native.Mathlib.Decide.{decLt}
@@ -17,9 +17,7 @@ use Rattle.reader.specs.Job.{WellFormedJob}
 use Rattle.reader.specs.declared.Job.{Job}
 use Rattle.recipe.specs.Fields.{sourceOf}
 use Rattle.wellformed.proofs.JobWords.{well-formed}
-use Rattle.table.specs.Table.{listsSource}
-use Rattle.table.proofs.Entries.{in-job-parts}
-use Rattle.soundness.specs.Sound.{sourcesOn, targetsOn}
+use Rattle.soundness.specs.Sound.{sourcesOn}
 use Rattle.soundness.proofs.Soundness.{sound-sources}
 use Rattle.entries.specs.Entries.{entryOf, firstEmpty}
 use Rattle.bench.specs.Calls.{soundBench, entryFor, unboundOn}
@@ -29,24 +27,24 @@ use Rattle.bench.proofs.Shapes.{sources-taken}
 use Rattle.bench.proofs.Binds.{tables-entry}
 use Rattle.demands.specs.Mapped.{sourceAt}
 use Rattle.demands.specs.Benches.{BenchOf, functionOn, Adds, LowestUnbound}
-use Rattle.demands.proofs.Parts.{rises-to, source-at}
+use Rattle.demands.proofs.Parts.{rises, rises-to, source-at}
 use Rattle.demands.proofs.Allowed.{Allowed, boundOn, nothing-there}
 use Rattle.demands.proofs.Benches.{same-sources}
 use Rattle.demands.proofs.OwnJob.{of-own-job}
 
 -- ---- what a bind adds
 
--- the entry of a function that the table lists is that of the source which has it
-entry-source : (ss : List ℕ) (f : ℕ) → listsSource ss f ≡ true → sourceFunction (getD ss (entryOf ss f) 0) ≡ f
-unfolding listsSource entryOf
-entry-source [] f e = absurd (false≢true e)
-entry-source (s ∷ ss) f e = go (eqb (sourceFunction s) f) refl (entry-source ss f) e
+-- an entry of the table is that of the source which has the function
+pub entry-source : (ss : List ℕ) (f : ℕ) → entryOf ss f < length ss → sourceFunction (getD ss (entryOf ss f) 0) ≡ f
+unfolding entryOf
+entry-source [] f l = absurd (omega arith)
+entry-source (s ∷ ss) f l = go (eqb (sourceFunction s) f) refl (entry-source ss f) l
   where
-    go : (b : Bool) → eqb (sourceFunction s) f ≡ b → (listsSource ss f ≡ true → sourceFunction (getD ss (entryOf ss f) 0) ≡ f)
-        → (if b then true else listsSource ss f) ≡ true
+    go : (b : Bool) → eqb (sourceFunction s) f ≡ b → (entryOf ss f < length ss → sourceFunction (getD ss (entryOf ss f) 0) ≡ f)
+        → (if b then 0 else entryOf ss f + 1) < suc (length ss)
         → sourceFunction (getD (s ∷ ss) (if b then 0 else entryOf ss f + 1) 0) ≡ f
     go true h later u = eqb-true (sourceFunction s) f h
-    go false h later u = rw add-one (later u)
+    go false h later u = rw add-one (later (omega arith))
 
 pub adds : (b : Bench) → Shaped b → (w : ℕ) → Allowed b w → Adds b w (boundOn b w)
 adds b h w a =
@@ -56,9 +54,7 @@ adds b h w a =
     record {
       entry = entryFor b (sourceOf w);
       within = omega arith;
-      its-source =
-          entry-source (sourcesOn (b .tables)) (sourceOf w)
-          (in-job-parts (sourcesOn (b .tables)) (targetsOn (b .tables)) w (a .unrefused .there) .0);
+      its-source = entry-source (sourcesOn (b .tables)) (sourceOf w) there;
       was-empty = nothing-there b (sourceOf w) (a .unrefused .free);
       holds-it = getD-set-same (b .bound) (entryFor b (sourceOf w)) w 0 (omega (arith, h .bound-entries));
       others-same = λ k other. getD-set-other (b .bound) (entryFor b (sourceOf w)) k w 0 other;
@@ -115,6 +111,12 @@ module _ (ws : List ℕ) (job : Job) (e : WellFormedJob ws job) (b : Bench) (o :
       ap (λ (x : Bench). functionOn x k) (o .as-opened)
       ∙ ap (λ (l : List ℕ). sourceFunction (getD l k 0)) (same-sources ws job e)
       ∙ source-at ws job k (omega (arith, source-count))
+
+  pub sources-apart : (i k : ℕ) → i < k → k < b .tables .nsources → functionOn b i ≡ functionOn b k → ⊥
+  sources-apart i k h l same =
+      let n = source-count in
+      let r = rises ws sourcesStart (job .sources) contentOf (well-formed ws job e .sources-rise) i k h (omega arith) in
+      omega (arith, same, function-at i (omega arith), function-at k l)
 
   pub sources-rise : (i k : ℕ) → i ≤ k → k < b .tables .nsources → functionOn b i ≤ functionOn b k
   sources-rise i k h l =

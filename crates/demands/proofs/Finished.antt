@@ -46,7 +46,7 @@ rule-recipe w =
 
 module _ (n : ℕ) (all ts : List ℕ) where
   -- in the entry of a source nothing stands, or a recipe of it
-  entry-at : (ss bs : List ℕ) (m : ℕ) → boundSound n all ts ss bs ≡ true → m < length ss → m < length bs
+  pub entry-at : (ss bs : List ℕ) (m : ℕ) → boundSound n all ts ss bs ≡ true → m < length ss → m < length bs
       → entrySound n all ts (getD ss m 0) (getD bs m 0) ≡ true
   unfolding boundSound
   entry-at [] bs m e h g = absurd (omega arith)
@@ -55,7 +55,7 @@ module _ (n : ℕ) (all ts : List ℕ) where
   entry-at (s ∷ ss) (w ∷ bs) (suc m) e h g =
       entry-at ss bs m (both (entrySound n all ts s w) (boundSound n all ts ss bs) e .1) (omega arith) (omega arith)
 
-  recipe-at : (s w : ℕ) → entrySound n all ts s w ≡ true → (w ≡ 0 → ⊥) → BoundRecipe n all ts s w
+  pub recipe-at : (s w : ℕ) → entrySound n all ts s w ≡ true → (w ≡ 0 → ⊥) → BoundRecipe n all ts s w
   unfolding entrySound bindable
   recipe-at s w e some =
       let t = if not (hasTarget ts w) then false else isRight (claimIn all ts w) n in

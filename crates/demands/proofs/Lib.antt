@@ -16,6 +16,7 @@ pub mod Outcomes
 pub mod OpenedSound
 pub mod Keeping
 pub mod Allowed
+pub mod Releasing
 pub mod Finished
 pub mod Benches
 pub mod AnyOrder
@@ -25,4 +26,5 @@ pub mod Entries
 pub mod Judging
 pub mod Refusals
 pub mod Values
+pub mod Releases
 pub mod Demands

@@ -18,7 +18,7 @@ use Rattle.glue.specs.Glue.{glue}
 use Rattle.checker.specs.Check.{Checks}
 use Rattle.checker.specs.Check as checker
 use Rattle.checker.specs.declared.Checked.{Checked}
-use Rattle.bench.specs.Calls.{soundBench, bindFault, benchOfZeros, openFor, openOf, claimOn, bindOf, Binds, priceOf, unboundOn, finishWritten, finishOf}
+use Rattle.bench.specs.Calls.{soundBench, hasBinding, bindFault, benchOfZeros, openFor, openOf, claimOn, bindOf, Binds, releaseOf, priceOf, unboundOn, finishWritten, finishOf}
 use Rattle.bench.specs.Calls as bench
 use Rattle.bench.specs.declared.Bench.{Bench}
 use Rattle.bench.specs.declared.Answer as bench-answer
@@ -51,10 +51,11 @@ use Rattle.mapper.specs.Mapping as mapper
 use Rattle.mapper.specs.declared.Answer as map-answer
 use Rattle.mapper.specs.declared.Answer.the-variants as mapped
 use Rattle.bench.specs.Shape.{Shaped}
-use Rattle.demands.specs.Answers.{among, OneNumber, judgeNumbers, readNumbers, checkNumbers, bindNumbers, judgeAccepts, checkAccepts, callAccepts, writeNumbers, writeAccepts, evaluateNumbers, priceNumbers, mapNumbers, benchPriceNumbers, finishNumbers, evaluateAccepts, jobAccepts, mappingAccepts, priceAccepts, mapAccepts}
+use Rattle.demands.specs.Answers.{among, OneNumber, judgeNumbers, readNumbers, checkNumbers, bindNumbers, releaseNumbers, judgeAccepts, checkAccepts, callAccepts, writeNumbers, writeAccepts, evaluateNumbers, priceNumbers, mapNumbers, benchPriceNumbers, finishNumbers, evaluateAccepts, jobAccepts, mappingAccepts, priceAccepts, mapAccepts}
 use Rattle.demands.proofs.OpenedSound.{zeros-not-sound}
 use Rattle.demands.proofs.Outcomes.{accepted-apart, Outcome, Unread, Unmapped, Short, Writes, outcome}
 use Rattle.demands.proofs.Allowed.{Outcome as Bind, Bound, Unchanged, outcome as bind}
+use Rattle.demands.proofs.Releasing.{Release, Released, Kept, release}
 use Rattle.demands.proofs.Finishing.{refused-lent}
 use Rattle.demands.proofs.Numbered.{Listed, one-answer, of-reading, recipe-number, Judges, sentence-refused, sentence-decided, fit-number, accepts, paper, Binding, fault-number, bind-names, check-number}
 
@@ -140,7 +141,7 @@ map-answers ws lent = one-answer mapAccepts mapper.paperOf mapNumbers (answerOf 
     go (job.Refused r) e = of-reading (12 ∷ 23 ∷ []) (r .number) (job-number r ws e)
     go (job.Accepted j) e = by-choice (choiceOf ws j)
 
--- ---- open, bind, price, finish
+-- ---- open, bind, release, price, finish
 
 pub open-answers : (ws : List ℕ) → OneNumber After accepts paper readNumbers (λ r. r ≡ openOf ws)
 unfolding openOf
@@ -157,6 +158,13 @@ bind-answers b w =
     (λ some. one-answer accepts paper bindNumbers _ (fault-number b w (not-true (eqb (bindFault b w) noRefusal) some)))
     (λ _. either (Binding b w) (not (isRight (claimOn b w) (b .tables .width))) (λ _. bind-names b w (claimOn b w) (b .tables .width))
     (λ _. one-answer accepts paper bindNumbers _ refl))
+
+pub release-answers : (b : Bench) (f : ℕ) → OneNumber After accepts paper releaseNumbers (λ r. r ≡ releaseOf b f)
+unfolding releaseOf
+release-answers b f =
+    let P : After → Type 0 = λ x. Listed accepts paper releaseNumbers x in
+    one-answer accepts paper releaseNumbers (releaseOf b f)
+    (either P (not (soundBench b)) (λ _. refl) (λ _. either P (not (hasBinding b f)) (λ _. refl) (λ _. refl)))
 
 pub bench-price-answers : (b : Bench) → OneNumber After accepts paper benchPriceNumbers (λ r. r ≡ priceOf b)
 unfolding priceOf
@@ -192,6 +200,13 @@ refused-bind-changes-nothing b w r answer e = by-outcome (bind b w r answer)
     by-outcome : Bind b w r → r .bench ≡ b
     by-outcome (Bound _ u) = absurd (true≢false (sym (ap (λ (x : After). callAccepts (x .answer)) u) ∙ e))
     by-outcome (Unchanged _ u) = u
+
+pub refused-release-changes-nothing : (b : Bench) (f : ℕ) → callAccepts (releaseOf b f .answer) ≡ false → releaseOf b f .bench ≡ b
+refused-release-changes-nothing b f e = by-outcome (release b f)
+  where
+    by-outcome : Release b f → releaseOf b f .bench ≡ b
+    by-outcome (Released _ _ u) = absurd (true≢false (sym (ap (λ (x : After). callAccepts (x .answer)) u) ∙ e))
+    by-outcome (Kept _ u) = u
 
 -- price and finish hand it back whatever they answer
 pub price-hands-back : (b : Bench) → priceOf b .bench ≡ b

@@ -71,6 +71,10 @@ checkNumbers = readNumbers ++ (7 ∷ 8 ∷ 9 ∷ 10 ∷ 11 ∷ [])
 abbrev pub bindNumbers : List ℕ
 bindNumbers = 20 ∷ 2 ∷ 3 ∷ 5 ∷ 6 ∷ 8 ∷ 21 ∷ 10 ∷ []
 
+-- "24 .. checked after 20"
+abbrev pub releaseNumbers : List ℕ
+releaseNumbers = 20 ∷ 24 ∷ []
+
 abbrev pub benchPriceNumbers : List ℕ
 benchPriceNumbers = 20 ∷ []
 

@@ -1,4 +1,4 @@
--- The words in which the bench's promises are said: document 01, "Mapper and bench".
+-- The words in which the bench's promises are said: document 01, "Mapper and bench", and request #102.
 use Prim.Native.Nat.{ℕ, _<_, _≤_}
 use mathlib.Core.Path.{_≡_}
 use mathlib.Core.Bool.{true}
@@ -17,7 +17,7 @@ use Rattle.checker.specs.Check.{Checks}
 use Rattle.checker.specs.Check as checker
 use Rattle.checker.specs.declared.Checked.{Checked}
 use Rattle.soundness.specs.Sound.{nothing, sourcesOn}
-use Rattle.bench.specs.Calls.{soundBench, bindingsOn, holding, opened, openOf, Binds, glueOn, priceOf, mappingOn, finishOf, lentAfterFinish, paperOf}
+use Rattle.bench.specs.Calls.{soundBench, bindingsOn, holding, opened, openOf, Binds, releaseOf, glueOn, priceOf, mappingOn, finishOf, lentAfterFinish, paperOf}
 use Rattle.bench.specs.declared.Bench.{Bench}
 use Rattle.bench.specs.declared.After.{After}
 
@@ -25,6 +25,7 @@ use Rattle.bench.specs.declared.After.{After}
 pub data Reached (ws : List ℕ) : Bench → Type 0 where
   opening : Reached ws (openOf ws .bench)
   binding : {b : Bench} (w : ℕ) (r : After) → Reached ws b → Binds b w r → Reached ws (r .bench)
+  releasing : {b : Bench} (f : ℕ) → Reached ws b → Reached ws (releaseOf b f .bench)
   pricing : {b : Bench} → Reached ws b → Reached ws (priceOf b .bench)
   finishing : {b : Bench} (lent : List ℕ) → Reached ws b → Reached ws (finishOf b lent .bench)
 
@@ -61,6 +62,21 @@ pub record Adds (b : Bench) (w : ℕ) (after : Bench) : Type 0 where
   pub was-empty : entryOn b entry ≡ nothing
   pub holds-it : entryOn after entry ≡ w
   pub others-same : (k : ℕ) → (k ≡ entry → ⊥) → entryOn after k ≡ entryOn b k
+  pub entries-same : length (after .bound) ≡ length (b .bound)
+  pub tables-same : after .tables ≡ b .tables
+
+-- something is bound to a function: in the entry of a source that has it
+pub record BoundTo (b : Bench) (f : ℕ) : Type 0 where
+  pub entry : ℕ
+  pub within : entry < b .tables .nsources
+  pub its-source : functionOn b entry ≡ f
+  pub not-empty : entryOn b entry ≡ nothing → ⊥
+
+-- a release takes off just that binding: nothing is left in its entry, and nothing else of the bench changes
+pub record Removes (b : Bench) (f : ℕ) (after : Bench) : Type 0 where
+  pub bound-to : BoundTo b f
+  pub is-empty : entryOn after (bound-to .entry) ≡ nothing
+  pub others-same : (k : ℕ) → (k ≡ bound-to .entry → ⊥) → entryOn after k ≡ entryOn b k
   pub entries-same : length (after .bound) ≡ length (b .bound)
   pub tables-same : after .tables ≡ b .tables
 

@@ -3,10 +3,11 @@ use mathlib.Core.Path.{_≡_, refl, sym, ap, _∙_}
 use mathlib.Core.Bool.{Bool, true, false, false≢true}
 use mathlib.Core.List.{List, [], _∷_}
 use Prim.Native.Nat.{ℕ, suc, _+_, _≤_, _<_}
+use native.Mathlib.Decide.{decLt}
 use native.Mathlib.Omega.{arith}
 use lib.Bits.{bitOr, or-zero-r}
 use lib.Dec.{eqb}
-use lib.ListN.{length, drop, getD, drop-of-length-le}
+use lib.ListN.{length, drop, getD, drop-of-length-le, List·getD-eq-default}
 use borrow.Author.Tests.{eq-eqb, ne-eqb}
 use Rattle.words.specs.Choice.{if_then_else_}
 use Rattle.words.proofs.Choices.{either}
@@ -16,7 +17,7 @@ use Rattle.table.specs.Table.{listsSource}
 use Rattle.usage.specs.Sets.{usageOf, usage}
 use Rattle.usage.proofs.Joining.{or-assoc}
 use Rattle.soundness.specs.Sound.{filled}
-use Rattle.entries.specs.Entries.{entryOf, firstEmpty}
+use Rattle.entries.specs.Entries.{entryOf, isBound, firstEmpty}
 
 -- ---- the entry of a function
 
@@ -56,6 +57,15 @@ lists-entry (s ∷ ss) f e = go (eqb (sourceFunction s) f) (lists-entry ss f) e
         → (if b then 0 else entryOf ss f + 1) < suc (length ss)
     go true h u = omega arith
     go false h u = omega (arith, h u)
+
+-- what is bound to a function stands within the entries
+pub bound-within : (ss bs : List ℕ) (f : ℕ) → isBound ss bs f ≡ true → entryOf ss f < length bs
+unfolding isBound
+bound-within ss bs f e =
+    elim (decLt (entryOf ss f) (length bs)) [
+      | yes h ↦ h
+      | no h ↦ absurd (false≢true (rw (List·getD-eq-default bs 0 {n = entryOf ss f} (omega arith)) at e))
+    ]
 
 -- ---- the first empty entry
 

@@ -28,7 +28,8 @@ pub fn between(comment: bool) -> Hex
     }
 }
 
-fn digit_of(byte: u8) -> u32
+// A digit's value, capital or small; 16 for another byte.
+pub fn digit_of(byte: u8) -> u32
     ensures { λ r. ⌜ r ≡ T.digitOf byte ⌝ }
 {
     let b = byte as u32;

@@ -12,7 +12,7 @@ refusal number place = record { number = number; place = place }
 abbrev pub noRefusal : ℕ
 noRefusal = 0
 
--- how refusals 9, 10, 12, 21 and 22 write a source: "place: .. function"
+-- how refusals 9, 10, 12, 21, 22 and 24 write a source: "place: .. function"
 abbrev pub sourcePlace : ℕ → ℕ
 sourcePlace function = function
 

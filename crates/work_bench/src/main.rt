@@ -112,9 +112,9 @@ fn help() {
     console::print(&USAGE);
     console::print(
         b"\n\
-        Opens the job of a file, and answers commands, one a line: bind WORD (a rule's eight hexadecimal digits), price, show,\n\
-        finish. A finish prints the mapping and writes its words to the file MAPPING, if it is named. Empty lines, and lines\n\
-        that begin with #, are passed over.\n\
+        Opens the job of a file, and answers commands, one a line: bind WORD (a rule's eight hexadecimal digits), release F (a\n\
+        function's number in decimal), price, show, finish. A finish prints the mapping and writes its words to the file\n\
+        MAPPING, if it is named. Empty lines, and lines that begin with #, are passed over.\n\
         \n\
         example: printf 'bind 50854960\\nprice\\nshow\\n' | work_bench job\n",
     );

@@ -1,5 +1,5 @@
 -- `commands::command_of` meets its contract.
-use Rattle.commands.proofs.Meaning.{is-pass, is-price, is-show, is-finish, is-bind}
+use Rattle.commands.proofs.Meaning.{is-pass, is-price, is-show, is-finish, is-other}
 use borrow.Author.Needs.{needs}
 use Rattle.commands.proofs.command_of.Statement.{statement}
 use Rattle.commands.proofs.command_of.Tie as tie
@@ -37,11 +37,11 @@ same-requires-3 c κs = search needs
 returns-4 : tie.Need-returns-4
 returns-4 c = search is-finish
 
-bind-line-requires : tie.Need-bind-line-requires
-bind-line-requires c κs = search needs
+command-with-requires : tie.Need-command-with-requires
+command-with-requires c κs = search needs
 
 returns-5 : tie.Need-returns-5
-returns-5 c = search is-bind
+returns-5 c = search is-other
 
 pub command-of-spec : {M : Type 1} → statement M
 command-of-spec =
@@ -58,5 +58,5 @@ command-of-spec =
     slice-aggregate-same-3
     same-requires-3
     returns-4
-    bind-line-requires
+    command-with-requires
     returns-5)
