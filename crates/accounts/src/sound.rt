@@ -9,6 +9,8 @@ use testing::words::at;
 use testing::words::content;
 use testing::words::kind;
 
+pub const BENCH_WORDS: usize = 87;
+
 pub const TARGETS: usize = 27;
 
 pub const BOUND: usize = 54;

@@ -20,14 +20,13 @@ use Rattle.reader.specs.declared.JobRead.{JobRead}
 use Rattle.reader.specs.declared.JobRead.the-variants as read
 use Rattle.wellformed.proofs.Parts.{Entry}
 use Rattle.wellformed.proofs.JobWords.{JobFacts, well-formed}
-use Rattle.glue.specs.Glue.{glue}
 use Rattle.writer.specs.Asked.{Writable}
 use Rattle.writer.specs.Write.{mappingWords, writtenOf, lentAfter}
 use Rattle.writer.specs.declared.Written.{Written}
 use Rattle.writer.specs.declared.Written.the-variants as written
-use Rattle.soundness.specs.Sound.{sourcesOn, targetsOn, tableWords, filled, empty, entrySound, boundSound, holds}
+use Rattle.soundness.specs.Sound.{sourcesOn, targetsOn, tableWords, filled, empty, entrySound, boundSound, glueOn, holds}
 use Rattle.soundness.proofs.Soundness.{sound-holds, sound-sources, sound-width}
-use Rattle.bench.specs.Calls.{soundBench, bindingsOn, gives, glueOn, unboundOn, finishWritten, mappingOn, finishOf, lentAfterFinish}
+use Rattle.bench.specs.Calls.{soundBench, bindingsOn, gives, unboundOn, finishWritten, mappingOn, finishOf, lentAfterFinish}
 use Rattle.entries.specs.Entries.{firstEmpty}
 use Rattle.bench.specs.Shape.{Shaped}
 use Rattle.bench.specs.declared.Bench.{Bench}
@@ -114,7 +113,7 @@ module _ (b : Bench) (h : Shaped b) (s : soundBench b ≡ true) where
   pub bound-taken : b .tables .nsources ≡ length (take (b .tables .nsources) (b .bound))
   bound-taken = sym (length-take-le (b .tables .nsources) (b .bound) bound-fit)
 
-  pub mapping-writable : (g : ℕ) → (g ≡ glue (b .tables .width) (b .tables .prices) (bindingsOn b)) × (g < 2 ^ 28)
+  pub mapping-writable : (g : ℕ) → (g ≡ glueOn (b .tables) (b .bound)) × (g < 2 ^ 28)
       → Writable (b .tables .width) g (take (b .tables .nsources) (b .bound))
   mapping-writable g eg =
       record {
@@ -135,9 +134,8 @@ module _ (b : Bench) (h : Shaped b) (s : soundBench b ≡ true) where
     pub words-lacking : (n : Refusal) → r ≡ written.Refused n → Refused n ≡ finishWritten (writtenOf (b .tables .nsources) lent)
     words-lacking n e = ap finishWritten (sym e) ∙ answer-written
 
-  pub mapping-laid : unboundOn b ≡ 0 → (g : ℕ) → (g ≡ glue (b .tables .width) (b .tables .prices) (bindingsOn b)) × (g < 2 ^ 28) → (lent m : List ℕ)
+  pub mapping-laid : unboundOn b ≡ 0 → (g : ℕ) → (g ≡ glueOn (b .tables) (b .bound)) × (g < 2 ^ 28) → (lent m : List ℕ)
       → m ≡ lentAfter (mappingWords (b .tables .width) (take (b .tables .nsources) (b .bound)) g) lent → m ≡ lentAfter (mappingOn b) lent
-  unfolding glueOn
   mapping-laid u g eg lent m e = e ∙ (λ i. lentAfter (mappingWords (b .tables .width) (all-bound u i) (eg .0 i)) lent)
 
 -- ---- the call

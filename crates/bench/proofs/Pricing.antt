@@ -5,9 +5,9 @@ use mathlib.Core.List.{[]}
 use Prim.Native.Nat.{ℕ, _^_, _<_}
 use borrow.Author.Tests.{not-true, not-false}
 use Rattle.words.specs.Paper.{refusal}
-use Rattle.glue.specs.Glue.{glue}
 use Rattle.glue.proofs.Bounds.{glue-none}
-use Rattle.bench.specs.Calls.{soundBench, bindingsOn, gives, glueOn, priceOf}
+use Rattle.soundness.specs.Sound.{glueOn}
+use Rattle.bench.specs.Calls.{soundBench, bindingsOn, gives, priceOf}
 use Rattle.bench.specs.declared.Bench.{Bench}
 use Rattle.bench.specs.declared.Answer.the-variants.{Count, Refused}
 
@@ -16,9 +16,9 @@ module _ (b : Bench) (p : Bool) (ep : p ≡ soundBench b) where
   unfolding priceOf
   price-refused h = rw (sym ep ∙ not-true p h) refl
 
-  pub price-counted : (g : ℕ) → not p ≡ false → (g ≡ glue (b .tables .width) (b .tables .prices) (bindingsOn b)) × (g < 2 ^ 28)
+  pub price-counted : (g : ℕ) → not p ≡ false → (g ≡ glueOn (b .tables) (b .bound)) × (g < 2 ^ 28)
       → gives b (Count g) ≡ priceOf b
-  unfolding priceOf glueOn
+  unfolding priceOf
   price-counted g h e = rw (sym ep ∙ not-false p h) (ap (λ (x : ℕ). gives b (Count x)) (e .0))
 
 -- "The empty bench prices at 0."

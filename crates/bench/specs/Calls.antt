@@ -20,11 +20,10 @@ use Rattle.reader.specs.declared.JobRead.{JobRead}
 use Rattle.reader.specs.declared.JobRead.the-variants as read
 use Rattle.table.specs.Table.{inJob}
 use Rattle.claims.specs.Claim.{claimIn}
-use Rattle.glue.specs.Glue.{glue}
 use Rattle.writer.specs.Write.{mappingWords, writtenOf, lentAfter}
 use Rattle.writer.specs.declared.Written.{Written}
 use Rattle.writer.specs.declared.Written.the-variants as written
-use Rattle.soundness.specs.Sound.{nothing, filled, sourcesOn, targetsOn, ruleFault, isSound}
+use Rattle.soundness.specs.Sound.{nothing, filled, sourcesOn, targetsOn, ruleFault, glueOn, isSound}
 use Rattle.soundness.specs.declared.Tables.{Tables}
 use Rattle.opening.specs.Opening.{tablesIn, tablesOfZeros}
 use Rattle.entries.specs.Entries.{entryOf, isBound, firstEmpty}
@@ -140,11 +139,8 @@ releaseOf b f =
 
 -- ---- price: 20, then the count
 
-unfoldable pub glueOn : Bench → ℕ
-glueOn b = glue (b .tables .width) (b .tables .prices) (bindingsOn b)
-
 unfoldable pub priceOf : Bench → After
-priceOf b = gives b (if not (soundBench b) then Refused (refusal 20 0) else Count (glueOn b))
+priceOf b = gives b (if not (soundBench b) then Refused (refusal 20 0) else Count (glueOn (b .tables) (b .bound)))
 
 -- ---- finish: 20, 22 (lowest), 23 last; writes the mapping
 
@@ -159,7 +155,7 @@ finishWritten (written.Words n) = Mapping n
 
 -- "header, 0 to 27 bindings, glue count"
 abbrev pub mappingOn : Bench → List ℕ
-mappingOn b = mappingWords (b .tables .width) (bindingsOn b) (glueOn b)
+mappingOn b = mappingWords (b .tables .width) (bindingsOn b) (glueOn (b .tables) (b .bound))
 
 unfoldable pub finishOf : Bench → List ℕ → After
 finishOf b lent =

@@ -45,6 +45,13 @@ fn empty_bench(tables: Tables) -> Bench
     Bench { tables, bound }
 }
 
+// The bench of zeros, which a job that is not opened leaves.
+pub fn zeros() -> Bench
+    ensures { λ r. ⌜ r ≡ C.benchOfZeros ⌝ }
+{
+    empty_bench(opening::tables_of_zeros())
+}
+
 // Writes the mapping of a bench whose sources are all bound: refusal 23.
 fn write(bench: Bench, lent: &mut [u32]) -> Answer
     requires { ⌜ (C.soundBench bench ≡ true) × (C.unboundOn bench ≡ 0) ⌝ }
@@ -54,7 +61,7 @@ fn write(bench: Bench, lent: &mut [u32]) -> Answer
     let tables = bench.tables;
     let nsources = tables.nsources as usize;
     let bound = bench.bound;
-    let glue = entries::glue_on(tables, bound);
+    let glue = soundness::glue_on(tables, bound);
     let written = writer::write_mapping(tables.width, &bound[..nsources], glue, lent);
     match written {
         Written::Refused(refusal) => Answer::Refused(refusal),
@@ -70,7 +77,7 @@ impl Bench {
         let read = reader::read_job(words);
         match read {
             JobRead::Refused(refusal) => After {
-                bench: empty_bench(opening::tables_of_zeros()),
+                bench: zeros(),
                 answer: Answer::Refused(refusal),
             },
             JobRead::Accepted(job) => After {
@@ -162,7 +169,7 @@ impl Bench {
         let bound = self.bound;
         After {
             bench: self,
-            answer: Answer::Count(entries::glue_on(tables, bound)),
+            answer: Answer::Count(soundness::glue_on(tables, bound)),
         }
     }
 

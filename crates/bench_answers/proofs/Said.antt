@@ -15,9 +15,7 @@ use Rattle.listing.specs.Listing.{mostBindingBytes, mostGlueBytes, glueLine, ma
 use Rattle.input.specs.declared.Input.{Input}
 use Rattle.commands.specs.declared.Command.{Command}
 use Rattle.commands.specs.declared.Command.the-variants as command
-use Rattle.soundness.specs.declared.Tables.{Tables}
-use Rattle.opening.specs.Opening.{tablesOfZeros}
-use Rattle.bench.specs.Calls.{gives, emptyBench, benchOfZeros, openOf, Binds, releaseOf, priceOf, finishOf, lentAfterFinish}
+use Rattle.bench.specs.Calls.{gives, benchOfZeros, openOf, Binds, releaseOf, priceOf, finishOf, lentAfterFinish}
 use Rattle.bench.specs.declared.Bench.{Bench}
 use Rattle.bench.specs.declared.After.{After}
 use Rattle.bench.specs.declared.Answer.{Answer}
@@ -126,6 +124,3 @@ module _ (job : List ℕ) (input : Input) where
       subst (λ (b : Bool). SaysInput b job input out after r) (sym f)
       (subst (λ (a : After). SaysOpened a out after r) e
       (record { next = refl; opens = ap (λ (s : Answered). s .done) (p .says); text = p .puts }))
-
-pub zeros-are : (t : Tables) → t ≡ tablesOfZeros → emptyBench t ≡ benchOfZeros
-zeros-are t e = ap emptyBench e

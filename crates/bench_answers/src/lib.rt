@@ -12,7 +12,6 @@ ghost use Prim.Native.Nat.{_+_, _≤_};
 ghost use lib.ListN.{length};
 ghost use Rattle.text.specs.Text as P;
 ghost use Rattle.listing.specs.Listing as L;
-ghost use Rattle.bench.specs.Calls as C;
 ghost use Rattle.bench_answers.specs.Answers as S;
 ghost use Rattle.bench_answers.specs.Asked as Q;
 
@@ -199,7 +198,7 @@ fn open_input(job: &[u32], input: Input) -> After
 {
     if input.cut {
         return After {
-            bench: zeros(),
+            bench: bench::zeros(),
             answer: Answer::Refused(Refusal {
                 number: 2,
                 place: input.whole,
@@ -207,17 +206,6 @@ fn open_input(job: &[u32], input: Input) -> After
         };
     }
     Bench::open(job)
-}
-
-// The bench of zeros, which a job that is not opened leaves.
-fn zeros() -> Bench
-    ensures { λ r. ⌜ r ≡ C.benchOfZeros ⌝ }
-{
-    let bound = [NOTHING; MOST_SOURCES];
-    Bench {
-        tables: opening::tables_of_zeros(),
-        bound,
-    }
 }
 
 // What is said of a job's file: the words that were kept of it, and what was read.
@@ -228,7 +216,7 @@ pub fn open(job: &[u32], input: Input, out: &mut [u8]) -> Opened
 {
     if input.failed {
         return Opened {
-            bench: zeros(),
+            bench: bench::zeros(),
             opened: false,
             bytes: 0,
         };

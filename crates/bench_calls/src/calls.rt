@@ -1,6 +1,7 @@
 // The bench's calls, on benches as the reference has them: 87 words. Here alone a bench and its answers are taken apart.
 use crate::files::LENT;
 use crate::files::lent_holds;
+use accounts::sound::BENCH_WORDS;
 use accounts::sound::BOUND;
 use accounts::sound::NSOURCES;
 use accounts::sound::NTARGETS;
@@ -24,7 +25,7 @@ use testing::words::put;
 use words::Prices;
 
 // The 27 words of a bench from an index on.
-fn table_of(words: [u32; 87], from: usize) -> [u32; 27] {
+fn table_of(words: [u32; BENCH_WORDS], from: usize) -> [u32; 27] {
     let mut table = [0u32; 27];
     let mut i = 0;
     while i < 27 {
@@ -34,7 +35,7 @@ fn table_of(words: [u32; 87], from: usize) -> [u32; 27] {
     table
 }
 
-fn bench_of(words: [u32; 87]) -> Bench {
+fn bench_of(words: [u32; BENCH_WORDS]) -> Bench {
     let prices = Prices {
         inverter: (words[84] % 256) as u8,
         gate: (words[85] % 256) as u8,
@@ -63,13 +64,13 @@ fn put_table(words: &mut [u32], from: usize, table: [u32; 27]) {
     }
 }
 
-fn words_of(bench: Bench) -> [u32; 87] {
+fn words_of(bench: Bench) -> [u32; BENCH_WORDS] {
     let tables = bench.tables;
     let prices = tables.prices;
     let sources = tables.sources;
     let targets = tables.targets;
     let bound = bench.bound;
-    let mut words = [0u32; 87];
+    let mut words = [0u32; BENCH_WORDS];
     put_table(&mut words, 0, sources);
     put_table(&mut words, TARGETS, targets);
     put_table(&mut words, BOUND, bound);
@@ -114,7 +115,7 @@ fn of_answer(answer: bench::Answer, rule: u32, n: u32) -> Answer {
 // stands in them and nothing past it.
 pub struct Told {
     pub answer: Answer,
-    pub bench: [u32; 87],
+    pub bench: [u32; BENCH_WORDS],
     pub untouched: bool,
     pub printed: bool,
 }
@@ -134,29 +135,29 @@ pub fn open(job: &[u32]) -> Told {
     told_by(Bench::open(job), &[], 0)
 }
 
-pub fn bind(words: [u32; 87], rule: u32) -> Told {
+pub fn bind(words: [u32; BENCH_WORDS], rule: u32) -> Told {
     let bench = bench_of(words);
     told_by(bench.bind(rule), &[], rule)
 }
 
-pub fn release(words: [u32; 87], function: u32) -> Told {
+pub fn release(words: [u32; BENCH_WORDS], function: u32) -> Told {
     let bench = bench_of(words);
     told_by(bench.release(function), &[], 0)
 }
 
-pub fn price(words: [u32; 87]) -> Told {
+pub fn price(words: [u32; BENCH_WORDS]) -> Told {
     let bench = bench_of(words);
     told_by(bench.price(), &[], 0)
 }
 
-fn finish_into(words: [u32; 87], lent: &mut [u32]) -> Told {
+fn finish_into(words: [u32; BENCH_WORDS], lent: &mut [u32]) -> Told {
     let bench = bench_of(words);
     let after = bench.finish(lent);
     told_by(after, lent, 0)
 }
 
 // Finishes into so many lent words, 32 at most.
-pub fn finish(words: [u32; 87], size: usize) -> Told {
+pub fn finish(words: [u32; BENCH_WORDS], size: usize) -> Told {
     let mut lent = [LENT; 32];
     if size < 32 {
         return finish_into(words, &mut lent[..size]);
@@ -165,7 +166,7 @@ pub fn finish(words: [u32; 87], size: usize) -> Told {
 }
 
 // Whether the checker accepts the words that a bench of the printed job writes.
-pub fn is_accepted(words: [u32; 87]) -> bool {
+pub fn is_accepted(words: [u32; BENCH_WORDS]) -> bool {
     let bench = bench_of(words);
     let mut lent = [LENT; 6];
     let after = bench.finish(&mut lent);

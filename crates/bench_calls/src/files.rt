@@ -1,4 +1,5 @@
 // The rules of the mapping that document 01 prints, benches put together without the library, and words beside each other.
+use accounts::sound::BENCH_WORDS;
 use accounts::sound::BOUND;
 use accounts::sound::NSOURCES;
 use accounts::sound::NTARGETS;
@@ -36,8 +37,8 @@ pub const ALL: u32 = 15;
 pub const INHIBIT: u32 = 32;
 
 // The bench of the printed job at a width, with a set of rules bound.
-fn printed_bench(width: u32, bound: u32) -> [u32; 87] {
-    let mut words = [0u32; 87];
+fn printed_bench(width: u32, bound: u32) -> [u32; BENCH_WORDS] {
+    let mut words = [0u32; BENCH_WORDS];
     words[0] = 0x3000_0001;
     words[1] = 0x3000_0003;
     words[2] = 0x3000_0008;
@@ -73,8 +74,8 @@ fn bind_set(words: &mut [u32], bound: u32) {
 }
 
 // A job of LT and, as its target, RINHI, with this word bound.
-pub fn inhibit_bench(width: u32, word: u32) -> [u32; 87] {
-    let mut words = [0u32; 87];
+pub fn inhibit_bench(width: u32, word: u32) -> [u32; BENCH_WORDS] {
+    let mut words = [0u32; BENCH_WORDS];
     words[0] = 0x3000_0019;
     words[TARGETS] = 0x4000_0013;
     words[BOUND] = word;
@@ -85,9 +86,9 @@ pub fn inhibit_bench(width: u32, word: u32) -> [u32; 87] {
 }
 
 // A bench at a width by a set of what is bound; width 0 stands for the bench of zeros.
-pub fn bench_with(width: u32, bound: u32) -> [u32; 87] {
+pub fn bench_with(width: u32, bound: u32) -> [u32; BENCH_WORDS] {
     if width == 0 {
-        return [0u32; 87];
+        return [0u32; BENCH_WORDS];
     }
     if bound == INHIBIT {
         return inhibit_bench(width, 0);
@@ -106,8 +107,8 @@ fn put_functions(words: &mut [u32], from: usize, kind: u32) {
 }
 
 // The largest bench: every function a source and a target, and each bound to itself.
-pub fn whole_bench(width: u32) -> [u32; 87] {
-    let mut words = [0u32; 87];
+pub fn whole_bench(width: u32) -> [u32; BENCH_WORDS] {
+    let mut words = [0u32; BENCH_WORDS];
     words[WIDTH] = width;
     words[NSOURCES] = 27;
     words[NTARGETS] = 27;
@@ -117,9 +118,9 @@ pub fn whole_bench(width: u32) -> [u32; 87] {
     words
 }
 
-pub fn same_bench(one: &[u32; 87], other: &[u32; 87]) -> bool {
+pub fn same_bench(one: &[u32; BENCH_WORDS], other: &[u32; BENCH_WORDS]) -> bool {
     let mut i = 0;
-    while i < 87 {
+    while i < BENCH_WORDS {
         if one[i] != other[i] {
             return false;
         }

@@ -1,4 +1,5 @@
 // Rules that bind refuses, and some that it binds.
+use accounts::sound::BENCH_WORDS;
 use bench_calls::calls;
 use bench_calls::calls::Told;
 use bench_calls::files::bench_with;
@@ -64,7 +65,7 @@ const NAMES: [u8; 512] = *b"no kind|a binding|a source|bit 4|right wiring 7|main
 
 // What becomes of the bench: the word stands at its index; or the bench is kept, and refusal 10 is borne out.
 fn say_outcome(as_said: bool, index: usize, number: u32) {
-    if index < 87 {
+    if index < BENCH_WORDS {
         lines::whether(as_said, b", at its place\n|, NOT AT ITS PLACE\n");
     } else if number == 10 {
         lines::whether(as_said, b", borne out, bench kept\n|, borne out, NOT SO\n");
@@ -74,7 +75,7 @@ fn say_outcome(as_said: bool, index: usize, number: u32) {
 }
 
 // The bench then has the word at the index, or is kept; and the operands of refusal 10 show it.
-fn is_as_said(bench: [u32; 87], word: u32, index: usize, told: Told) -> bool {
+fn is_as_said(bench: [u32; BENCH_WORDS], word: u32, index: usize, told: Told) -> bool {
     let next = told.bench;
     let answer = told.answer;
     let mut expected = bench;
@@ -82,7 +83,7 @@ fn is_as_said(bench: [u32; 87], word: u32, index: usize, told: Told) -> bool {
     same_bench(&next, &expected) & (answer.number != NOT_SHOWN)
 }
 
-fn show_bind(name: &[u8], bench: [u32; 87], word: u32, index: usize) {
+fn show_bind(name: &[u8], bench: [u32; BENCH_WORDS], word: u32, index: usize) {
     let told = calls::bind(bench, word);
     let answer = told.answer;
     say::word(b"    ", word);

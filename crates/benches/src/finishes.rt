@@ -1,4 +1,5 @@
 // Benches that finish and price refuse, and one that they take, with lent words of several lengths.
+use accounts::sound::BENCH_WORDS;
 use bench_calls::calls;
 use bench_calls::calls::Told;
 use bench_calls::files::bench_with;
@@ -34,12 +35,12 @@ const PRICES: [u32; 4] = [0x10_00_00, 0x10_0F_00, 0x00_00_00, 0x10_17_00];
 
 const PRICE_NAMES: [u8; 50] = *b"nothing bound|all bound|zeros|the printed LT bound";
 
-fn bench_of(row: u32) -> [u32; 87] {
+fn bench_of(row: u32) -> [u32; BENCH_WORDS] {
     bench_with(row / 0x1_0000, row / 256 % 256)
 }
 
 // A call that keeps its bench.
-fn show_told(name: &[u8], told: Told, bench: [u32; 87]) {
+fn show_told(name: &[u8], told: Told, bench: [u32; BENCH_WORDS]) {
     let answer = told.answer;
     let next = told.bench;
     say::text(b"    ");

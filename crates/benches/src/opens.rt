@@ -1,4 +1,5 @@
 // Jobs that open refuses, and some at the edge that it does not.
+use accounts::sound::BENCH_WORDS;
 use bench_calls::calls;
 use bench_calls::files::bench_with;
 use bench_calls::files::same_bench;
@@ -59,7 +60,7 @@ fn show(name: &[u8], words: &[u32]) {
     let bench = opened.bench;
     say::text(b"    ");
     lines::answer(name, told);
-    lines::whether(same_bench(&bench, &[0u32; 87]), b", zeros|");
+    lines::whether(same_bench(&bench, &[0u32; BENCH_WORDS]), b", zeros|");
     let of_printed = same_bench(&bench, &bench_with(16, 0));
     lines::whether(of_printed, b", the printed job's bench\n|\n");
 }

@@ -2,6 +2,7 @@
 use crate::runs::Run;
 use crate::runs::begun;
 use crate::runs::with_bound;
+use accounts::sound::BENCH_WORDS;
 use bench_calls::calls;
 use bench_calls::files::ALL;
 use bench_calls::files::RULES;
@@ -22,7 +23,7 @@ struct Orders {
 }
 
 // Whether a bench finishes with the printed mapping.
-pub fn writes_the_mapping(bench: [u32; 87]) -> bool {
+pub fn writes_the_mapping(bench: [u32; BENCH_WORDS]) -> bool {
     let finished = calls::finish(bench, 6);
     let told = finished.answer;
     same_answer(told, answered(WRITTEN, 0, 6)) & finished.printed

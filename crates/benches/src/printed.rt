@@ -1,4 +1,5 @@
 // The printed job bound in the order of its sources, priced after each call, finished and checked.
+use accounts::sound::BENCH_WORDS;
 use bench_calls::calls;
 use bench_calls::calls::Told;
 use bench_calls::files::RULES;
@@ -14,7 +15,7 @@ use testing::words::JOB;
 const PRICES: [usize; 4] = [0, 64, 144, 148];
 
 // The price of a bench, which is to be the stored one.
-fn show_price(bench: [u32; 87], stored: usize) {
+fn show_price(bench: [u32; BENCH_WORDS], stored: usize) {
     let told = calls::price(bench);
     let price = told.answer;
     lines::answer(b"", price);
@@ -30,7 +31,7 @@ fn show_step(told: Told, stored: usize) {
     show_price(bench, stored);
 }
 
-fn show_bind(bench: [u32; 87], rule: u32, stored: usize) -> [u32; 87] {
+fn show_bind(bench: [u32; BENCH_WORDS], rule: u32, stored: usize) -> [u32; BENCH_WORDS] {
     let told = calls::bind(bench, rule);
     say::word(b"    bind ", rule);
     show_step(told, stored);
@@ -38,7 +39,7 @@ fn show_bind(bench: [u32; 87], rule: u32, stored: usize) -> [u32; 87] {
     next
 }
 
-fn bind_all(opened: Told) -> [u32; 87] {
+fn bind_all(opened: Told) -> [u32; BENCH_WORDS] {
     let mut bench = opened.bench;
     let mut i = 0;
     while i < 4 {
@@ -50,7 +51,7 @@ fn bind_all(opened: Told) -> [u32; 87] {
 }
 
 // Into eight words, of which six are written.
-fn show_finish(bench: [u32; 87]) {
+fn show_finish(bench: [u32; BENCH_WORDS]) {
     let finished = calls::finish(bench, 8);
     let written = finished.answer;
     lines::answer(b"    finish", written);

@@ -1,5 +1,6 @@
 // The printed job bound again, with calls that are refused before and after each bind.
 use crate::orders::writes_the_mapping;
+use accounts::sound::BENCH_WORDS;
 use bench_calls::calls;
 use bench_calls::calls::Told;
 use bench_calls::files::RULES;
@@ -34,7 +35,7 @@ const UNBOUND: [usize; 4] = [1, 3, 8, 25];
 // The bench of a run; its calls that were to be refused; those that were, as expected; those that left the bench, and the lent words,
 // as they were; and the binds that were done.
 pub struct Run {
-    pub bench: [u32; 87],
+    pub bench: [u32; BENCH_WORDS],
     tried: u64,
     refused: u64,
     kept: u64,

@@ -1,4 +1,5 @@
 // The bench's calls on spoilt benches, beside the reference's account of which are sound.
+use accounts::sound::BENCH_WORDS;
 use accounts::sound::is_sound;
 use bench_calls::calls;
 use bench_calls::calls::Told;
@@ -32,7 +33,7 @@ fn empty() -> Tally {
 }
 
 // Refused with 20 where the bench is not sound, and only there; refused, the bench and the lent words are as they were.
-fn is_fair(told: Told, bench: [u32; 87], sound: bool) -> bool {
+fn is_fair(told: Told, bench: [u32; BENCH_WORDS], sound: bool) -> bool {
     let next = told.bench;
     let answer = told.answer;
     let refused = same_answer(answer, answered(OF_WORD, 20, 0));
@@ -41,14 +42,14 @@ fn is_fair(told: Told, bench: [u32; 87], sound: bool) -> bool {
 }
 
 // A bench that is sound is priced, and keeps as it is.
-fn price_is_fair(bench: [u32; 87], sound: bool) -> bool {
+fn price_is_fair(bench: [u32; BENCH_WORDS], sound: bool) -> bool {
     let told = calls::price(bench);
     let price = told.answer;
     let next = told.bench;
     ((price.form == PRICED) ^ !sound) & same_bench(&next, &bench) & is_fair(told, bench, sound)
 }
 
-fn with(all: Tally, bench: [u32; 87]) -> Tally {
+fn with(all: Tally, bench: [u32; BENCH_WORDS]) -> Tally {
     let sound = is_sound(&bench);
     let fair = price_is_fair(bench, sound)
         & is_fair(calls::bind(bench, RSUB_RULE), bench, sound)
@@ -62,7 +63,7 @@ fn with(all: Tally, bench: [u32; 87]) -> Tally {
 }
 
 // A bit turned: of the three tables and the three numbers 32 a word, then of the prices 8.
-fn turned(bench: [u32; 87], i: u32) -> [u32; 87] {
+fn turned(bench: [u32; BENCH_WORDS], i: u32) -> [u32; BENCH_WORDS] {
     let mut words = bench;
     if i < 2688 {
         let index = (i / 32) as usize;
@@ -74,7 +75,7 @@ fn turned(bench: [u32; 87], i: u32) -> [u32; 87] {
     words
 }
 
-fn with_each_bit(bench: [u32; 87]) -> Tally {
+fn with_each_bit(bench: [u32; BENCH_WORDS]) -> Tally {
     let mut all = empty();
     let mut i: u32 = 0;
     while i < 2712 {
@@ -86,7 +87,7 @@ fn with_each_bit(bench: [u32; 87]) -> Tally {
 }
 
 // The words of the printed job and of its mapping, and 0, at each index of the three tables.
-fn with_each_word(bench: [u32; 87]) -> Tally {
+fn with_each_word(bench: [u32; BENCH_WORDS]) -> Tally {
     let mut all = empty();
     let mut i = 0;
     while i < 1701 {
@@ -108,7 +109,7 @@ fn report_group(name: &[u8], all: Tally) {
     );
 }
 
-fn report_bench(name: &[u8], bench: [u32; 87]) {
+fn report_bench(name: &[u8], bench: [u32; BENCH_WORDS]) {
     say::text(name);
     report_group(b"\n    as it is", with(empty(), bench));
     report_group(b"    a bit turned", with_each_bit(bench));
@@ -125,5 +126,5 @@ pub fn report() {
         inhibit_bench(1, 0x5CCD_4003),
     );
     report_bench(b"every function bound to itself at width 2", whole_bench(2));
-    report_bench(b"zeros", [0u32; 87]);
+    report_bench(b"zeros", [0u32; BENCH_WORDS]);
 }

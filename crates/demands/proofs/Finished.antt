@@ -19,9 +19,9 @@ use Rattle.table.specs.Table.{hasTarget}
 use Rattle.claims.specs.Claim.{claimIn}
 use Rattle.writer.specs.Write.{wordsNeeded, writtenOf}
 use Rattle.writer.proofs.Writing.{mapping-length, written-words}
-use Rattle.soundness.specs.Sound.{sourcesOn, targetsOn, filled, ruleFault, bindable, entrySound, boundSound}
+use Rattle.soundness.specs.Sound.{sourcesOn, targetsOn, filled, ruleFault, bindable, entrySound, boundSound, glueOn}
 use Rattle.soundness.proofs.Soundness.{sound-holds, sound-sources}
-use Rattle.bench.specs.Calls.{soundBench, bindingsOn, gives, glueOn, unboundOn, mappingOn, finishOf, lentAfterFinish}
+use Rattle.bench.specs.Calls.{soundBench, bindingsOn, gives, unboundOn, mappingOn, finishOf, lentAfterFinish}
 use Rattle.entries.specs.Entries.{firstEmpty}
 use Rattle.bench.specs.Shape.{Shaped}
 use Rattle.bench.specs.declared.Bench.{Bench}
@@ -112,7 +112,7 @@ module _ (b : Bench) (h : Shaped b) (s : soundBench b ≡ true) (u : unboundOn b
   unfolding finishOf lentAfterFinish writtenOf
   finishes lent room =
       let n : length (mappingOn b) ≡ wordsNeeded (b .tables .nsources)
-      = mapping-length (b .tables .width) (glueOn b) (bindingsOn b) ∙ ap wordsNeeded binding-number in
+      = mapping-length (b .tables .width) (glueOn (b .tables) (b .bound)) (bindingsOn b) ∙ ap wordsNeeded binding-number in
       record {
         answer = rw s (rw (eq-eqb (unboundOn b) 0 u) (rw (le-ltb (length lent) (wordsNeeded (b .tables .nsources)) room) refl));
         words =

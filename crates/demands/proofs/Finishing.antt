@@ -21,9 +21,9 @@ use Rattle.writer.proofs.Writing.{mapping-length, untouched}
 use Rattle.choice.specs.Choose.{Mapped}
 use Rattle.mapper.specs.Mapping.{choiceOf, chosenWords, answerOf}
 use Rattle.mapper.specs.Mapping as mapper
-use Rattle.soundness.specs.Sound.{sourcesOn}
+use Rattle.soundness.specs.Sound.{sourcesOn, glueOn}
 use Rattle.opening.specs.Opening.{tableOf}
-use Rattle.bench.specs.Calls.{soundBench, holding, bindingsOn, opened, glueOn, unboundOn, finishWritten, mappingOn, finishOf, lentAfterFinish, paperOf}
+use Rattle.bench.specs.Calls.{soundBench, holding, bindingsOn, opened, unboundOn, finishWritten, mappingOn, finishOf, lentAfterFinish, paperOf}
 use Rattle.bench.specs.Shape.{Shaped}
 use Rattle.bench.specs.declared.Bench.{Bench}
 use Rattle.bench.specs.declared.Answer.the-variants.{Refused}
@@ -110,7 +110,7 @@ module _ (b : Bench) (h : Shaped b) (lent : List ℕ) where
           (omega (
             arith,
             ltb-true (length lent) (wordsNeeded (b .tables .nsources)) z,
-            mapping-length (b .tables .width) (glueOn b) (bindingsOn b),
+            mapping-length (b .tables .width) (glueOn (b .tables) (b .bound)) (bindingsOn b),
             binding-number b h s u,
           ))
       too-few s u false z e = absurd (true≢false e)

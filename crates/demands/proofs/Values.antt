@@ -40,8 +40,8 @@ use Rattle.mapper.specs.Mapping as mapper
 use Rattle.mapper.proofs.Answering.{sources-length}
 use Rattle.checker.specs.Check.{Checks}
 use Rattle.checker.specs.declared.Checked.{Checked}
-use Rattle.soundness.specs.Sound.{filled}
-use Rattle.bench.specs.Calls.{soundBench, bindingsOn, opened, priceOf, glueOn, unboundOn, mappingOn, finishWritten, finishOf}
+use Rattle.soundness.specs.Sound.{filled, glueOn}
+use Rattle.bench.specs.Calls.{soundBench, bindingsOn, opened, priceOf, unboundOn, mappingOn, finishWritten, finishOf}
 use Rattle.bench.specs.Calls as bench
 use Rattle.bench.specs.Shape.{Shaped}
 use Rattle.bench.specs.declared.Bench.{Bench}
@@ -218,7 +218,7 @@ module _ (b : Bench) (h : Shaped b) where
                 ap (λ (l : List ℕ). reader.paperOf (mappingOf l)) same
                 ∙ ap reader.paperOf (reads-back ws job e (bindingsOn b) bindable)
                 ∙ ap (λ (k : ℕ). accepted (job .width ∷ k ∷ glueOf job (bindingsOn b) ∷ [])) size
-                ∙ ap (λ (x : Bench). accepted (x .tables .width ∷ b .tables .nsources ∷ bench.glueOn (bench.holding x (b .bound)) ∷ [])) (sym opened);
+                ∙ ap (λ (x : Bench). accepted (x .tables .width ∷ b .tables .nsources ∷ glueOn (x .tables) (b .bound) ∷ [])) (sym opened);
             bindings =
                 ap (λ (l : List ℕ). take (b .tables .nsources) (drop bindingsStart l)) same
                 ∙ ap (λ (k : ℕ). take k (drop bindingsStart (chosenWords job (bindingsOn b)))) (sym size)

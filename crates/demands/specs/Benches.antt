@@ -16,8 +16,8 @@ use Rattle.writer.specs.Write.{bindingWords, wordsNeeded}
 use Rattle.checker.specs.Check.{Checks}
 use Rattle.checker.specs.Check as checker
 use Rattle.checker.specs.declared.Checked.{Checked}
-use Rattle.soundness.specs.Sound.{nothing, sourcesOn}
-use Rattle.bench.specs.Calls.{soundBench, bindingsOn, holding, opened, openOf, Binds, releaseOf, glueOn, priceOf, mappingOn, finishOf, lentAfterFinish, paperOf}
+use Rattle.soundness.specs.Sound.{nothing, sourcesOn, glueOn}
+use Rattle.bench.specs.Calls.{soundBench, bindingsOn, holding, opened, openOf, Binds, releaseOf, priceOf, mappingOn, finishOf, lentAfterFinish, paperOf}
 use Rattle.bench.specs.declared.Bench.{Bench}
 use Rattle.bench.specs.declared.After.{After}
 
@@ -82,7 +82,7 @@ pub record Removes (b : Bench) (f : ℕ) (after : Bench) : Type 0 where
 
 -- words read back to a bench's bindings and count
 pub record ReadsBack (b : Bench) (words : List ℕ) : Type 0 where
-  pub answer : reader.paperOf (mappingOf words) ≡ accepted (b .tables .width ∷ b .tables .nsources ∷ glueOn b ∷ [])
+  pub answer : reader.paperOf (mappingOf words) ≡ accepted (b .tables .width ∷ b .tables .nsources ∷ glueOn (b .tables) (b .bound) ∷ [])
   pub bindings : take (b .tables .nsources) (drop bindingsStart words) ≡ bindingWords (bindingsOn b)
 
 -- "22. Finish: source unbound; place: lowest."

@@ -1,11 +1,10 @@
--- The searches of entries: the entry of a function, the first empty one, what the filled ones use.
-use mathlib.Core.Path.{_≡_, refl, sym, ap, _∙_}
+-- The searches of entries: the entry of a function, and the first empty one.
+use mathlib.Core.Path.{_≡_, sym, _∙_}
 use mathlib.Core.Bool.{Bool, true, false, false≢true}
 use mathlib.Core.List.{List, [], _∷_}
 use Prim.Native.Nat.{ℕ, suc, _+_, _≤_, _<_}
 use native.Mathlib.Decide.{decLt}
 use native.Mathlib.Omega.{arith}
-use lib.Bits.{bitOr, or-zero-r}
 use lib.Dec.{eqb}
 use lib.ListN.{length, drop, getD, drop-of-length-le, List·getD-eq-default}
 use borrow.Author.Tests.{eq-eqb, ne-eqb}
@@ -14,9 +13,6 @@ use Rattle.words.proofs.Choices.{either}
 use Rattle.words.proofs.Lists.{drop-next}
 use Rattle.words.specs.Field.{sourceFunction}
 use Rattle.table.specs.Table.{listsSource}
-use Rattle.usage.specs.Sets.{usageOf, usage}
-use Rattle.usage.proofs.Joining.{or-assoc}
-use Rattle.soundness.specs.Sound.{filled}
 use Rattle.entries.specs.Entries.{entryOf, isBound, firstEmpty}
 
 -- ---- the entry of a function
@@ -85,26 +81,3 @@ module _ (ss bs : List ℕ) (i : ℕ) (e : firstEmpty (drop i ss) (drop i bs) �
 
     pub unbound-passed : (getD bs i 0 ≡ 0 → ⊥) → firstEmpty (drop (i + 1) ss) (drop (i + 1) bs) ≡ firstEmpty ss bs
     unbound-passed u = rw (ne-eqb (getD bs i 0) 0 u) at next-unbound
-
--- ---- what the filled entries use
-
-pub usage-filled : (w : ℕ) (bs : List ℕ) → usage (filled (w ∷ bs)) ≡ bitOr (if eqb w 0 then 0 else usageOf w) (usage (filled bs))
-unfolding filled usage
-usage-filled w bs = go (eqb w 0)
-  where
-    go : (b : Bool) → usage (if b then filled bs else w ∷ filled bs) ≡ bitOr (if b then 0 else usageOf w) (usage (filled bs))
-    go true = refl
-    go false = refl
-
-module _ (bs : List ℕ) (i u : ℕ) (e : bitOr u (usage (filled (drop i bs))) ≡ usage (filled bs)) where
-  pub all-used : length bs ≤ i → u ≡ usage (filled bs)
-  unfolding filled usage
-  all-used h = sym (or-zero-r u) ∙ (rw (drop-of-length-le bs h) at e)
-
-  pub one-used : (x : ℕ) → i < length bs → x ≡ (if eqb (getD bs i 0) 0 then 0 else usageOf (getD bs i 0))
-      → bitOr (bitOr u x) (usage (filled (drop (i + 1) bs))) ≡ usage (filled bs)
-  one-used x h ex =
-      or-assoc u x (usage (filled (drop (i + 1) bs)))
-      ∙ ap (λ (y : ℕ). bitOr u (bitOr y (usage (filled (drop (i + 1) bs))))) ex
-      ∙ ap (bitOr u) (sym (usage-filled (getD bs i 0) (drop (i + 1) bs)))
-      ∙ (rw (drop-next bs i h) at e)

@@ -1,21 +1,15 @@
--- What sound tables are asked for: their words within their entries, the entry of a function and what is bound there, the price of what is
--- bound.
-use mathlib.Core.Path.{_≡_, refl, ap, _∙_}
+-- What sound tables are asked for: their words within their entries, the entry of a function and what is bound there.
+use mathlib.Core.Path.{_≡_, refl, ap}
 use mathlib.Core.Bool.{true, false, not}
 use mathlib.Core.List.{List}
 use Prim.Native.Nat.{ℕ, _≤_}
 use native.Mathlib.Omega.{arith}
 use lib.Dec.{eqb}
 use lib.ListN.{length, getD, List·getD-eq-default}
-use Rattle.words.specs.declared.Prices.{Prices}
 use Rattle.bits.specs.Asked.{Width}
 use Rattle.sequence.specs.Limits.{mostSources, mostTargets}
-use Rattle.usage.specs.Sets.{usage}
-use Rattle.glue.specs.Glue.{glue}
-use Rattle.tally.specs.Parts.{setCount}
-use Rattle.tally.proofs.Joining.{price-is-glue}
 use Rattle.soundness.specs.Shape.{TablesShaped}
-use Rattle.soundness.specs.Sound.{filled, sourcesOn, tablesSound}
+use Rattle.soundness.specs.Sound.{sourcesOn, tablesSound}
 use Rattle.soundness.specs.declared.Tables.{Tables}
 use Rattle.soundness.proofs.Shapes.{sources-few}
 use Rattle.soundness.proofs.Soundness.{counted}
@@ -46,7 +40,3 @@ module _ (t : Tables) (bound : List ℕ) (f i : ℕ) (ei : (i ≡ entryOf (sourc
   pub bound-nowhere : length bound ≡ mostSources → mostSources ≤ i → false ≡ isBound (sourcesOn t) bound f
   unfolding isBound
   bound-nowhere n h = rw (← ei .0, List·getD-eq-default bound 0 {n = i} (omega arith)) refl
-
-pub counted-glue : (n : ℕ) (p : Prices) (bound : List ℕ) (u r : ℕ) → u ≡ usage (filled bound) → (r ≡ setCount n p u) × (r ≤ 612000)
-    → r ≡ glue n p (filled bound)
-counted-glue n p bound u r eu h = h .0 ∙ ap (setCount n p) eu ∙ price-is-glue n p (filled bound)

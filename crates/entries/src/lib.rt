@@ -7,12 +7,11 @@ use soundness::Tables;
 use verdict::Verdict;
 ghost use mathlib.Core.Path.{_≡_};
 ghost use mathlib.Core.Bool.{true};
-ghost use Prim.Native.Nat.{_≤_, _<_, _^_};
+ghost use Prim.Native.Nat.{_≤_};
 ghost use Rattle.sequence.specs.Limits.{mostSources};
 ghost use Rattle.verdict.specs.Verdicts as D;
 ghost use Rattle.table.specs.Table as T;
 ghost use Rattle.claims.specs.Claim as C;
-ghost use Rattle.glue.specs.Glue as G;
 ghost use Rattle.soundness.specs.Sound as S;
 ghost use Rattle.entries.specs.Entries as E;
 
@@ -75,13 +74,4 @@ pub fn unbound_on(tables: Tables, bound: [u32; MOST_SOURCES]) -> u32
     let sources = tables.sources;
     let nsources = tables.nsources as usize;
     search::first_empty(&sources[..nsources], &bound)
-}
-
-// The glue count of what is bound.
-pub fn glue_on(tables: Tables, bound: [u32; MOST_SOURCES]) -> u32
-    requires { ⌜ S.tablesSound tables ≡ true ⌝ }
-    ensures { λ r. ⌜ (r ≡ G.glue (tables .width) (tables .prices) (S.filled bound)) × (r < 2 ^ 28) ⌝ }
-{
-    let prices = tables.prices;
-    tally::price(search::usage_of(&bound), tables.width, prices)
 }

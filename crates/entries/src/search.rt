@@ -1,12 +1,8 @@
-// Entries searched, and what the bindings in them use.
+// Entries searched: for a source's, and for the first empty one.
 use soundness::NOTHING;
 ghost use mathlib.Core.Path.{_≡_};
 ghost use Prim.Native.Nat.{_≤_};
-ghost use lib.Dec.{eqb};
 ghost use lib.ListN.{length};
-ghost use Rattle.words.specs.Choice.{if_then_else_};
-ghost use Rattle.usage.specs.Sets as U;
-ghost use Rattle.soundness.specs.Sound as S;
 ghost use Rattle.entries.specs.Entries as E;
 
 // The entry of the source whose function it is, or the number of sources.
@@ -36,27 +32,4 @@ pub fn first_empty(sources: &[u32], bound: &[u32]) -> u32
         i += 1;
     }
     alu::NO_FUNCTION
-}
-
-// What the binding in an entry uses; an empty one uses nothing.
-fn entry_usage(word: u32) -> u64
-    ensures { λ r. ⌜ r ≡ (if eqb word S.nothing then 0 else U.usageOf word) ⌝ }
-{
-    if word == NOTHING {
-        return 0;
-    }
-    usage::usage_of(word)
-}
-
-// What the bindings in all entries use.
-pub fn usage_of(bound: &[u32]) -> u64
-    ensures { λ r. ⌜ r ≡ U.usage (S.filled (now (bound .entry))) ⌝ }
-{
-    let mut used: u64 = 0;
-    let mut i = 0;
-    while i < bound.len() {
-        used = used | entry_usage(bound[i]);
-        i += 1;
-    }
-    used
 }

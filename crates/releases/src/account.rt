@@ -1,5 +1,6 @@
 // A second account of binds and releases: what is bound is a plain list of rules, in the order in which they came, and what a bind is
 // refused for is asked of the reference.
+use accounts::sound::BENCH_WORDS;
 use accounts::sound::BOUND;
 use accounts::sound::TARGETS;
 use accounts::sound::WIDTH;
@@ -66,7 +67,7 @@ pub fn without(list: List, function: u32) -> List {
 }
 
 // The index of a word in a table of a bench, or the table's end.
-fn entry_of(bench: &[u32; 87], from: usize, word: u32) -> usize {
+fn entry_of(bench: &[u32; BENCH_WORDS], from: usize, word: u32) -> usize {
     let end = wrapping_add_usize(from, 27);
     let mut i = from;
     while i < end {
@@ -79,7 +80,7 @@ fn entry_of(bench: &[u32; 87], from: usize, word: u32) -> usize {
 }
 
 // What a bind of a rule to a bench with these tables answers, this list being bound.
-pub fn bind_answer(bench: &[u32; 87], list: List, rule: u32) -> Answer {
+pub fn bind_answer(bench: &[u32; BENCH_WORDS], list: List, rule: u32) -> Answer {
     let fault = recipe_fault(rule);
     if fault != 0 {
         return answered(OF_WORD, fault, 0);
@@ -109,16 +110,16 @@ pub fn release_answer(list: List, function: u32) -> Answer {
 }
 
 // The index in a bench of the entry for a rule, past the bench for none.
-fn index_for(tables: &[u32; 87], rule: u32) -> usize {
+fn index_for(tables: &[u32; BENCH_WORDS], rule: u32) -> usize {
     if rule == 0 {
-        return 87;
+        return BENCH_WORDS;
     }
     let entry = entry_of(tables, 0, 0x3000_0000 | fields_of(rule).source);
     wrapping_add_usize(BOUND, entry)
 }
 
 // The bench with these tables on which the list is bound.
-pub fn bench_of(tables: [u32; 87], list: List) -> [u32; 87] {
+pub fn bench_of(tables: [u32; BENCH_WORDS], list: List) -> [u32; BENCH_WORDS] {
     let mut bench = tables;
     let rules = list.rules;
     let mut i = 0;

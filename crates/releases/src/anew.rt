@@ -1,4 +1,5 @@
 // What was released is bound anew, by the same rule and by another, and the price follows.
+use accounts::sound::BENCH_WORDS;
 use bench_calls::calls;
 use bench_calls::calls::Told;
 use bench_calls::files::same_bench;
@@ -27,7 +28,7 @@ const STEPS: [u32; 16] = [
 ];
 
 // A rule is bound, a function released.
-fn step(bench: [u32; 87], argument: u32) -> Told {
+fn step(bench: [u32; BENCH_WORDS], argument: u32) -> Told {
     if argument < 32 {
         say::count(b"    release ", argument as u64);
         return calls::release(bench, argument);
@@ -36,7 +37,7 @@ fn step(bench: [u32; 87], argument: u32) -> Told {
     calls::bind(bench, argument)
 }
 
-fn show_price(bench: [u32; 87]) {
+fn show_price(bench: [u32; BENCH_WORDS]) {
     let priced = calls::price(bench);
     let price = priced.answer;
     lines::answer(b"", price);

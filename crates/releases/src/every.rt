@@ -1,4 +1,5 @@
 // Every number up to 63 on the largest bench, with each function bound to itself and with nothing bound.
+use accounts::sound::BENCH_WORDS;
 use accounts::sound::BOUND;
 use accounts::sound::WIDTH;
 use bench_calls::calls;
@@ -27,7 +28,7 @@ fn expected_answer(is_bound: bool, function: u32) -> Answer {
     answered(OF_WORD, 24, function as usize)
 }
 
-fn with(all: Tally, bench: [u32; 87], function: u32, is_bound: bool) -> Tally {
+fn with(all: Tally, bench: [u32; BENCH_WORDS], function: u32, is_bound: bool) -> Tally {
     let told = calls::release(bench, function);
     let answer = told.answer;
     let next = told.bench;
@@ -48,7 +49,7 @@ fn with(all: Tally, bench: [u32; 87], function: u32, is_bound: bool) -> Tally {
     }
 }
 
-fn report_bench(name: &[u8], bench: [u32; 87], all_bound: bool) {
+fn report_bench(name: &[u8], bench: [u32; BENCH_WORDS], all_bound: bool) {
     let mut all = Tally {
         tried: 0,
         released: 0,
@@ -68,7 +69,7 @@ fn report_bench(name: &[u8], bench: [u32; 87], all_bound: bool) {
     );
 }
 
-fn emptied(bench: [u32; 87]) -> [u32; 87] {
+fn emptied(bench: [u32; BENCH_WORDS]) -> [u32; BENCH_WORDS] {
     let mut empty = bench;
     let mut i = BOUND;
     while i < WIDTH {

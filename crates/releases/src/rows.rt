@@ -1,4 +1,5 @@
 // Releases that are done and releases that are refused, on benches of the printed job.
+use accounts::sound::BENCH_WORDS;
 use bench_calls::calls;
 use bench_calls::files::bench_with;
 use bench_calls::files::same_bench;
@@ -41,14 +42,14 @@ const NAMES: [u8; 329] =
 
 // What becomes of the bench: nothing stands at the index, or the bench is kept.
 fn say_outcome(as_said: bool, index: usize) {
-    if index < 87 {
+    if index < BENCH_WORDS {
         lines::whether(as_said, b", taken off\n|, NOT TAKEN OFF\n");
     } else {
         lines::whether(as_said, b", bench kept\n|, NOT SO\n");
     }
 }
 
-fn show_release(name: &[u8], bench: [u32; 87], function: u32, index: usize) {
+fn show_release(name: &[u8], bench: [u32; BENCH_WORDS], function: u32, index: usize) {
     let told = calls::release(bench, function);
     let answer = told.answer;
     let next = told.bench;

@@ -4,6 +4,7 @@ use crate::account;
 use crate::account::List;
 use crate::account::bench_of;
 use crate::account::empty_list;
+use accounts::sound::BENCH_WORDS;
 use accounts::sound::WIDTH;
 use bench_calls::calls;
 use bench_calls::calls::Told;
@@ -75,7 +76,7 @@ const VECTORS: [u32; 16] = [0, 15, 1, 14, 7, 8, 6, 9, 3, 5, 12, 10, 4, 2, 13, 11
 // A run: the bench, the account's list, the binds and the releases that were done, the steps that were refused, and those at which the
 // two differ.
 struct Run {
-    bench: [u32; 87],
+    bench: [u32; BENCH_WORDS],
     list: List,
     bound: u64,
     released: u64,
@@ -84,7 +85,7 @@ struct Run {
 }
 
 // The tables of the job at a width, with nothing bound.
-fn tables_at(width: u32) -> [u32; 87] {
+fn tables_at(width: u32) -> [u32; BENCH_WORDS] {
     let opened = calls::open(&JOB);
     let mut bench = opened.bench;
     bench[WIDTH] = width;
@@ -112,7 +113,7 @@ fn after(
     told: Told,
     expected: Answer,
     list: List,
-    tables: [u32; 87],
+    tables: [u32; BENCH_WORDS],
     binds: bool,
 ) -> Run {
     let answer = told.answer;
@@ -130,7 +131,7 @@ fn after(
     }
 }
 
-fn with_bind(run: Run, tables: [u32; 87], rule: u32) -> Run {
+fn with_bind(run: Run, tables: [u32; BENCH_WORDS], rule: u32) -> Run {
     let list = run.list;
     let bench = run.bench;
     let expected = account::bind_answer(&tables, list, rule);
@@ -141,7 +142,7 @@ fn with_bind(run: Run, tables: [u32; 87], rule: u32) -> Run {
     after(run, told, expected, list, tables, true)
 }
 
-fn with_release(run: Run, tables: [u32; 87], function: u32) -> Run {
+fn with_release(run: Run, tables: [u32; BENCH_WORDS], function: u32) -> Run {
     let list = run.list;
     let bench = run.bench;
     let expected = account::release_answer(list, function);
@@ -160,7 +161,7 @@ fn with_release(run: Run, tables: [u32; 87], function: u32) -> Run {
 }
 
 // A bind so often out of 64 times, else a release.
-fn with_step(run: Run, tables: [u32; 87], random: u64, binds: u64) -> Run {
+fn with_step(run: Run, tables: [u32; BENCH_WORDS], random: u64, binds: u64) -> Run {
     let function = (random / 64 % 30) as u32;
     if random % 64 < binds {
         return with_bind(run, tables, rule_of(function % 28, random / 2048));
@@ -168,7 +169,7 @@ fn with_step(run: Run, tables: [u32; 87], random: u64, binds: u64) -> Run {
     with_release(run, tables, function)
 }
 
-fn begun(tables: [u32; 87]) -> Run {
+fn begun(tables: [u32; BENCH_WORDS]) -> Run {
     Run {
         bench: tables,
         list: empty_list(),
@@ -180,7 +181,7 @@ fn begun(tables: [u32; 87]) -> Run {
 }
 
 // The list bound again from the first on.
-fn bound_again(tables: [u32; 87], list: List) -> [u32; 87] {
+fn bound_again(tables: [u32; BENCH_WORDS], list: List) -> [u32; BENCH_WORDS] {
     let rules = list.rules;
     let mut bench = tables;
     let mut i = 0;
@@ -195,7 +196,7 @@ fn bound_again(tables: [u32; 87], list: List) -> [u32; 87] {
     bench
 }
 
-fn run_of(tables: [u32; 87], binds: u64) -> Run {
+fn run_of(tables: [u32; BENCH_WORDS], binds: u64) -> Run {
     let mut run = begun(tables);
     let mut random: u64 = 88172645463325252 ^ binds;
     let mut i: u32 = 0;

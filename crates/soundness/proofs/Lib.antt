@@ -1,3 +1,4 @@
 pub mod Shapes
 pub mod Copying
 pub mod Soundness
+pub mod Count

@@ -20,6 +20,7 @@ use Rattle.reader.specs.declared.JobRead.{JobRead}
 use Rattle.reader.specs.declared.JobRead.the-variants as read
 use Rattle.table.specs.Table.{hasTarget}
 use Rattle.claims.specs.Claim.{claimIn}
+use Rattle.glue.specs.Glue.{glue}
 use Rattle.soundness.specs.declared.Tables.{Tables}
 
 -- ---- entries
@@ -91,6 +92,10 @@ boundSound n sources targets [] bound = empty bound
 boundSound n sources targets (s ∷ ss) [] = true
 boundSound n sources targets (s ∷ ss) (w ∷ bound) =
     if not (entrySound n sources targets s w) then false else boundSound n sources targets ss bound
+
+-- the glue count of what is bound
+unfoldable pub glueOn : Tables → List ℕ → ℕ
+glueOn t bound = glue (t .width) (t .prices) (filled bound)
 
 -- ---- both
 

@@ -1,6 +1,8 @@
 // What a sound bench is: values in range, tables that a job could hold, and in each source's entry nothing or a right recipe of it.
+mod counting;
 mod reading;
 
+pub use counting::glue_on;
 pub use reading::copy;
 use sequence::MOST_SOURCES;
 use sequence::MOST_TARGETS;

@@ -10,11 +10,8 @@ read-job-requires c κs = search needs
 enum-known-read : tie.Need-enum-known-read
 enum-known-read c = search needs
 
-tables-of-zeros-requires : tie.Need-tables-of-zeros-requires
-tables-of-zeros-requires c κs = search needs
-
-empty-bench-requires : tie.Need-empty-bench-requires
-empty-bench-requires c κs = search needs
+zeros-requires : tie.Need-zeros-requires
+zeros-requires c κs = search needs
 
 enum-known-read-2 : tie.Need-enum-known-read-2
 enum-known-read-2 c = search needs
@@ -22,8 +19,8 @@ enum-known-read-2 c = search needs
 tables-of-requires : tie.Need-tables-of-requires
 tables-of-requires c κs = search as-read
 
-empty-bench-requires-2 : tie.Need-empty-bench-requires-2
-empty-bench-requires-2 c κs = search needs
+empty-bench-requires : tie.Need-empty-bench-requires
+empty-bench-requires c κs = search needs
 
 returns : tie.Need-returns
 returns c = search open-refused
@@ -37,10 +34,9 @@ open-spec =
     (tie.spec
     read-job-requires
     enum-known-read
-    tables-of-zeros-requires
-    empty-bench-requires
+    zeros-requires
     enum-known-read-2
     tables-of-requires
-    empty-bench-requires-2
+    empty-bench-requires
     returns
     returns-2)

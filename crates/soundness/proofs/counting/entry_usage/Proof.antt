@@ -1,8 +1,8 @@
--- `entries::search::entry_usage` meets its contract.
+-- `soundness::counting::entry_usage` meets its contract.
 use borrow.Author.Needs.{needs}
 use Rattle.words.proofs.Choices.{decide}
-use Rattle.entries.proofs.search.entry_usage.Statement.{statement}
-use Rattle.entries.proofs.search.entry_usage.Tie as tie
+use Rattle.soundness.proofs.counting.entry_usage.Statement.{statement}
+use Rattle.soundness.proofs.counting.entry_usage.Tie as tie
 
 returns : tie.Need-returns
 returns c = search decide

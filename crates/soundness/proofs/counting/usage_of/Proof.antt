@@ -1,14 +1,14 @@
--- `entries::search::usage_of` meets its contract.
+-- `soundness::counting::usage_of` meets its contract.
 use borrow.Author.Needs.{needs}
 use Prim.Native.Nat.{_-_, _≤_}
 use lib.Bits.{bitOr}
 use lib.ListN.{length, drop}
 use mathlib.Core.Path.{_≡_}
 use Rattle.usage.specs.Sets.{usage}
 use Rattle.soundness.specs.Sound.{filled}
-use Rattle.entries.proofs.Searching.{all-used, one-used}
-use Rattle.entries.proofs.search.usage_of.Statement.{statement}
-use Rattle.entries.proofs.search.usage_of.Tie as tie
+use Rattle.soundness.proofs.Count.{all-used, one-used}
+use Rattle.soundness.proofs.counting.usage_of.Statement.{statement}
+use Rattle.soundness.proofs.counting.usage_of.Tie as tie
 
 abbrev Inv-loop : tie.InvT-loop
 Inv-loop bound used₀ i₀ used i = (i ≤ length bound) × (bitOr used (usage (filled (drop i bound))) ≡ usage (filled bound))
