@@ -50,6 +50,11 @@ fn job_of(width: u32, rules: impl Iterator<Item = u32>) -> Vec<u32> {
     words
 }
 
+/// The same without rules.
+pub fn bare_job(width: u32) -> Vec<u32> {
+    job_of(width, std::iter::empty())
+}
+
 /// The book's words, as print_book prints them.
 pub fn book() -> Vec<u32> {
     let word = |line: &str| line.split_whitespace().nth(2).and_then(|digits| u32::from_str_radix(digits, 16).ok());

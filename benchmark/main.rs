@@ -1,6 +1,7 @@
 //! Times the proved library beside the same algorithm in plain Rust, the yardstick, and beside z3 where it is installed. Both are
-//! asked the same questions, and the run ends with an error where they answer differently.
+//! asked the same questions, and the run ends with an error where they answer differently. Of the bench, work_bench is timed by itself.
 
+mod bench;
 mod jobs;
 mod library;
 mod mapper;
@@ -200,5 +201,6 @@ fn main() {
     report_book(&pool);
     report_rules(&pool);
     report_widths(&sample[..2_000]);
+    bench::report();
     report_solver(sample);
 }

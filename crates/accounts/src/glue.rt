@@ -28,7 +28,11 @@ const COMPARISON: u32 = 5;
 // The vector of a binding from scratch, which has a code if they share a bit; bit 4 stands in each vector.
 const VECTOR: u32 = 6;
 
+// An entry in which nothing stands has none.
 fn has(word: u32, port: u32, code: u32) -> bool {
+    if word == 0 {
+        return false;
+    }
     let fields = fields_of(word);
     if fields.target == 0 {
         return (port == VECTOR) & ((fields.code | 16) & code != 0);

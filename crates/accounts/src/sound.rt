@@ -1,6 +1,8 @@
-// Which benches are sound, entry by entry: each entry of a table by the word before it, each bound word by what the reference shows.
-// A bench is 87 words: 27 entries each of sources, targets and bound rules; then the width, the numbers of sources and targets, and the
-// prices of an inverter, a gate and a multiplexer.
+// Which benches are sound, entry by entry: each entry of a table by the word before it, each bound word by what the reference shows, and
+// the stored count by the second count. A bench is 88 words: 27 entries each of sources, targets and bound rules; then the width, the
+// numbers of sources and targets, the prices of an inverter, a gate and a multiplexer, and the stored count.
+use crate::glue::Costs;
+use crate::glue::glue_count;
 use reference::recipe::fields_of;
 use reference::refusal::refusal_of;
 use reference::trial::is_right;
@@ -9,7 +11,7 @@ use testing::words::at;
 use testing::words::content;
 use testing::words::kind;
 
-pub const BENCH_WORDS: usize = 87;
+pub const BENCH_WORDS: usize = 88;
 
 pub const TARGETS: usize = 27;
 
@@ -20,6 +22,8 @@ pub const WIDTH: usize = 81;
 pub const NSOURCES: usize = 82;
 
 pub const NTARGETS: usize = 83;
+
+pub const GLUE: usize = 87;
 
 // A table from an index on, of so many words of a kind that rise, and zeros after them.
 fn table_fits(bench: &[u32], from: usize, count: u32, of: u32) -> bool {
@@ -67,6 +71,32 @@ fn may_be_bound(bench: &[u32], word: u32, place: usize) -> bool {
     is_right(word, n)
 }
 
+fn bound_on(bench: &[u32]) -> [u32; 27] {
+    let mut bound = [0u32; 27];
+    let mut i = 0;
+    while i < 27 {
+        bound[i] = at(bench, i + BOUND);
+        i += 1;
+    }
+    bound
+}
+
+// The glue count of what is bound; 0 where the width is past 64.
+pub fn count_on(bench: &[u32]) -> u32 {
+    let n = at(bench, WIDTH);
+    if n > 64 {
+        return 0;
+    }
+    let costs = Costs {
+        n: n as u64,
+        inverter: at(bench, 84) as u64,
+        gate: at(bench, 85) as u64,
+        multiplexer: at(bench, 86) as u64,
+    };
+    let bound = bound_on(bench);
+    (glue_count(&bound, costs) % 0x1_0000_0000) as u32
+}
+
 // Every byte is a price.
 pub fn is_sound(bench: &[u32]) -> bool {
     let n = at(bench, WIDTH);
@@ -91,5 +121,5 @@ pub fn is_sound(bench: &[u32]) -> bool {
         }
         place += 1;
     }
-    true
+    at(bench, GLUE) == count_on(bench)
 }

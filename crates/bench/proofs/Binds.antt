@@ -4,7 +4,7 @@ use mathlib.Core.Bool.{Bool, true, false, not}
 use Prim.Native.Nat.{ℕ, _≤_, _<_}
 use native.Mathlib.Omega.{arith}
 use lib.Dec.{eqb}
-use lib.ListN.{length}
+use lib.ListN.{length, set}
 use borrow.Author.Tests.{eq-eqb, ne-eqb, eqb-true, eqb-false, not-true, not-false}
 use Rattle.words.specs.Choice.{if_then_else_}
 use Rattle.words.specs.Paper.{refusal}
@@ -17,9 +17,9 @@ use Rattle.verdict.specs.declared.Verdict.the-variants as verdict
 use Rattle.verdict.proofs.Verdicting.{right-says, wrong-says}
 use Rattle.sequence.specs.Limits.{mostSources}
 use Rattle.table.proofs.Entries.{in-job-parts}
-use Rattle.soundness.specs.Sound.{sourcesOn, targetsOn, tablesSound, ruleFault}
+use Rattle.soundness.specs.Sound.{sourcesOn, targetsOn, tablesSound, ruleFault, glueOn}
 use Rattle.soundness.proofs.Soundness.{sound-sources, sound-tables}
-use Rattle.bench.specs.Calls.{soundBench, gives, inTables, entryFor, hasBinding, boundAt, bindFault, bindPlace, claimOn, bindOf, Binds}
+use Rattle.bench.specs.Calls.{benchWith, soundBench, gives, inTables, entryFor, hasBinding, boundAt, bindFault, bindPlace, claimOn, bindOf, Binds}
 use Rattle.bench.specs.Shape.{Shaped}
 use Rattle.bench.specs.declared.Bench.{Bench}
 use Rattle.bench.specs.declared.Answer.the-variants.{Done, Refused, Wrong}
@@ -35,7 +35,7 @@ tables-entry b w t =
 
 pub entry-there : (b : Bench) (w : ℕ) → soundBench b ≡ true → inTables b w ≡ true → (i : ℕ) → i ≡ entryFor b (sourceOf w) → Shaped b
     → i < mostSources
-entry-there b w s t i ei h = omega (arith, ei, sources-few b h (sound-sources (b .tables) (b .bound) s), tables-entry b w t)
+entry-there b w s t i ei h = omega (arith, ei, sources-few b h (sound-sources (b .tables) (b .bound) (b .glue) s), tables-entry b w t)
 
 -- ---- the refusals before 10
 
@@ -111,7 +111,7 @@ module _ (b : Bench) (w x : ℕ) (ex : x ≡ bindFault b w) where
     checked-sound = checked b w (sym ex ∙ hx) .sound
 
     pub checked-tables : tablesSound (b .tables) ≡ true
-    checked-tables = sound-tables (b .tables) (b .bound) checked-sound
+    checked-tables = sound-tables (b .tables) (b .bound) (b .glue) checked-sound
 
     module _ (f i : ℕ) (ef : f ≡ sourceOf w) (ei : (i ≡ entryFor b f) × (i ≤ mostSources)) where
       its-entry : i ≡ entryFor b (sourceOf w)
@@ -120,12 +120,14 @@ module _ (b : Bench) (w x : ℕ) (ex : x ≡ bindFault b w) where
       pub checked-entry : Shaped b → i < mostSources
       checked-entry h = entry-there b w checked-sound (checked b w (sym ex ∙ hx) .there) i its-entry h
 
-      pub bind-right : (v : Verdict) → Says (claimOn b w) (b .tables .width) v → v ≡ verdict.Right
-          → Binds b w (gives (boundAt b i w) Done)
+      pub bind-right : (v : Verdict) (g : ℕ) → Says (claimOn b w) (b .tables .width) v → v ≡ verdict.Right
+          → g ≡ glueOn (b .tables) (set (b .bound) i w) → Binds b w (gives (benchWith (b .tables) (set (b .bound) i w) g) Done)
       unfolding bindOf
-      bind-right v says ev =
+      bind-right v g says ev eg =
           rw (eq-eqb (bindFault b w) 0 (sym ex ∙ hx))
-          (rw (sym (right-says (claimOn b w) (b .tables .width) v says ev)) (ap (λ (y : ℕ). gives (boundAt b y w) Done) its-entry))
+          (rw (sym (right-says (claimOn b w) (b .tables .width) v says ev))
+          (ap (λ (y : ℕ). gives (benchWith (b .tables) (set (b .bound) i w) y) Done) eg
+          ∙ ap (λ (y : ℕ). gives (boundAt b y w) Done) its-entry))
 
     module _ (v : Verdict) (says : Says (claimOn b w) (b .tables .width) v) where
       pub bind-wrong : (z : Witness) → v ≡ verdict.Wrong z → Binds b w (gives b (Wrong z))
@@ -140,4 +142,4 @@ pub is-sound : (b : Bench) (p : Bool) → p ≡ soundBench b → not p ≡ false
 is-sound b p ep hp = sym ep ∙ not-false p hp
 
 pub tables-sound : (b : Bench) (p : Bool) → p ≡ soundBench b → not p ≡ false → tablesSound (b .tables) ≡ true
-tables-sound b p ep hp = sound-tables (b .tables) (b .bound) (is-sound b p ep hp)
+tables-sound b p ep hp = sound-tables (b .tables) (b .bound) (b .glue) (is-sound b p ep hp)

@@ -20,6 +20,7 @@ use Rattle.reader.specs.declared.JobRead.{JobRead}
 use Rattle.reader.specs.declared.JobRead.the-variants as read
 use Rattle.wellformed.proofs.Parts.{Entry}
 use Rattle.wellformed.proofs.JobWords.{JobFacts, well-formed}
+use Rattle.glue.proofs.Bounds.{glue-fits}
 use Rattle.writer.specs.Asked.{Writable}
 use Rattle.writer.specs.Write.{mappingWords, writtenOf, lentAfter}
 use Rattle.writer.specs.declared.Written.{Written}
@@ -59,10 +60,10 @@ job-of b = go (jobOf (tableWords (b .tables))) refl
 
 module _ (b : Bench) (h : Shaped b) (s : soundBench b ≡ true) where
   pub the-job : Job-of b
-  the-job = job-of b (sound-holds (b .tables) (b .bound) s .tables .held)
+  the-job = job-of b (sound-holds (b .tables) (b .bound) (b .glue) s .tables .held)
 
   sources-length : b .tables .nsources ≡ length (sourcesOn (b .tables))
-  sources-length = sources-taken b h (sound-sources (b .tables) (b .bound) s)
+  sources-length = sources-taken b h (sound-sources (b .tables) (b .bound) (b .glue) s)
 
   source-word : (m : ℕ) → m < length (sourcesOn (b .tables)) → getD (tableWords (b .tables)) (2 + m) 0 ≡ getD (sourcesOn (b .tables)) m 0
   source-word m l =
@@ -105,21 +106,30 @@ module _ (b : Bench) (h : Shaped b) (s : soundBench b ≡ true) where
     pub all-bound : take (b .tables .nsources) (b .bound) ≡ bindingsOn b
     all-bound =
         ap (λ (x : ℕ). take x (b .bound)) (sources-length b h s)
-        ∙ all-filled (b .tables .width) (sourcesOn (b .tables)) (targetsOn (b .tables)) (sourcesOn (b .tables)) (b .bound) (λ m l. source-entry b h s m l .least) (sound-holds (b .tables) (b .bound) s .entries) u
+        ∙ all-filled (b .tables .width) (sourcesOn (b .tables)) (targetsOn (b .tables)) (sourcesOn (b .tables)) (b .bound) (λ m l. source-entry b h s m l .least) (sound-holds (b .tables) (b .bound) (b .glue) s .entries) u
 
   pub bound-fit : b .tables .nsources ≤ length (b .bound)
-  bound-fit = omega (arith, h .bound-entries, sound-sources (b .tables) (b .bound) s)
+  bound-fit = omega (arith, h .bound-entries, sound-sources (b .tables) (b .bound) (b .glue) s)
 
   pub bound-taken : b .tables .nsources ≡ length (take (b .tables .nsources) (b .bound))
   bound-taken = sym (length-take-le (b .tables .nsources) (b .bound) bound-fit)
 
-  pub mapping-writable : (g : ℕ) → (g ≡ glueOn (b .tables) (b .bound)) × (g < 2 ^ 28)
-      → Writable (b .tables .width) g (take (b .tables .nsources) (b .bound))
-  mapping-writable g eg =
+  -- the stored count is a glue count, so it fits
+  stored-fits : b .glue < 2 ^ 28
+  unfolding glueOn
+  stored-fits =
+      let q = h .tables-shaped in
+      let most : glueOn (b .tables) (b .bound) < 2 ^ 28
+      = glue-fits (b .tables .width) (b .tables .prices) (bindingsOn b) (sound-width (b .tables) (b .bound) (b .glue) s .most)
+      (record { inverter-fits = q .inverter-fits; gate-fits = q .gate-fits; multiplexer-fits = q .multiplexer-fits }) in
+      omega (arith, sound-holds (b .tables) (b .bound) (b .glue) s .count, most)
+
+  pub mapping-writable : Writable (b .tables .width) (b .glue) (take (b .tables .nsources) (b .bound))
+  mapping-writable =
       record {
-        width-fits = sound-width (b .tables) (b .bound) s .most;
-        glue-fits = eg .1;
-        few-bound = omega (arith, bound-taken, sound-sources (b .tables) (b .bound) s);
+        width-fits = sound-width (b .tables) (b .bound) (b .glue) s .most;
+        glue-fits = stored-fits;
+        few-bound = omega (arith, bound-taken, sound-sources (b .tables) (b .bound) (b .glue) s);
       }
 
   -- ---- the writing
@@ -134,9 +144,10 @@ module _ (b : Bench) (h : Shaped b) (s : soundBench b ≡ true) where
     pub words-lacking : (n : Refusal) → r ≡ written.Refused n → Refused n ≡ finishWritten (writtenOf (b .tables .nsources) lent)
     words-lacking n e = ap finishWritten (sym e) ∙ answer-written
 
-  pub mapping-laid : unboundOn b ≡ 0 → (g : ℕ) → (g ≡ glueOn (b .tables) (b .bound)) × (g < 2 ^ 28) → (lent m : List ℕ)
-      → m ≡ lentAfter (mappingWords (b .tables .width) (take (b .tables .nsources) (b .bound)) g) lent → m ≡ lentAfter (mappingOn b) lent
-  mapping-laid u g eg lent m e = e ∙ (λ i. lentAfter (mappingWords (b .tables .width) (all-bound u i) (eg .0 i)) lent)
+  pub mapping-laid : unboundOn b ≡ 0 → (lent m : List ℕ)
+      → m ≡ lentAfter (mappingWords (b .tables .width) (take (b .tables .nsources) (b .bound)) (b .glue)) lent
+      → m ≡ lentAfter (mappingOn b) lent
+  mapping-laid u lent m e = e ∙ (λ i. lentAfter (mappingWords (b .tables .width) (all-bound u i) (b .glue)) lent)
 
 -- ---- the call
 

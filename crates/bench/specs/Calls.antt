@@ -1,5 +1,5 @@
--- Document 01, "Mapper and bench" and "Refusals that come from the state", and request #102: what each call answers, and the bench
--- afterwards.
+-- Document 01, "Mapper and bench" and "Refusals that come from the state", and requests #102 and #103: what each call answers, and the
+-- bench afterwards.
 use Prim.Native.Nat.{ℕ}
 use mathlib.Core.Path.{_≡_}
 use mathlib.Core.Bool.{Bool, not}
@@ -34,17 +34,17 @@ use Rattle.bench.specs.declared.After.{After}
 
 -- ---- a bench
 
--- a bench with these tables and bindings
-abbrev pub benchWith : Tables → List ℕ → Bench
-benchWith tables bound = record { tables = tables; bound = bound }
+-- a bench with these tables and bindings, and the count that it stores
+abbrev pub benchWith : Tables → List ℕ → ℕ → Bench
+benchWith tables bound stored = record { tables = tables; bound = bound; glue = stored }
 
--- the same bench with other bindings
+-- the same bench with other bindings, and their count: "store the count in the bench and keep it true"
 abbrev pub holding : Bench → List ℕ → Bench
-holding b bound = benchWith (b .tables) bound
+holding b bound = benchWith (b .tables) bound (glueOn (b .tables) bound)
 
 -- "A sound bench has values in range .."
 abbrev pub soundBench : Bench → Bool
-soundBench b = isSound (b .tables) (b .bound)
+soundBench b = isSound (b .tables) (b .bound) (b .glue)
 
 -- the bindings, in table order
 abbrev pub bindingsOn : Bench → List ℕ
@@ -57,7 +57,7 @@ entryFor b f = entryOf (sourcesOn (b .tables)) f
 abbrev pub hasBinding : Bench → ℕ → Bool
 hasBinding b f = isBound (sourcesOn (b .tables)) (b .bound) f
 
--- exactly one entry changed
+-- exactly one entry changed, and the count with it
 abbrev pub boundAt : Bench → ℕ → ℕ → Bench
 boundAt b i w = holding b (set (b .bound) i w)
 
@@ -66,9 +66,9 @@ gives b a = record { bench = b; answer = a }
 
 -- ---- open: "Opening takes no bench and binds nothing; refused, it hands back one of zeros only"
 
--- a bench with nothing bound
+-- a bench with nothing bound: "The empty bench prices at 0."
 abbrev pub emptyBench : Tables → Bench
-emptyBench tables = benchWith tables (replicate mostSources nothing)
+emptyBench tables = benchWith tables (replicate mostSources nothing) 0
 
 abbrev pub opened : List ℕ → Job → Bench
 opened ws job = emptyBench (tablesIn ws job)
@@ -137,10 +137,10 @@ releaseOf b f =
     else if not (hasBinding b f) then gives b (Refused (refusal 24 (sourcePlace f)))
     else gives (boundAt b (entryFor b f) nothing) Done
 
--- ---- price: 20, then the count
+-- ---- price: 20, then the stored count
 
 unfoldable pub priceOf : Bench → After
-priceOf b = gives b (if not (soundBench b) then Refused (refusal 20 0) else Count (glueOn (b .tables) (b .bound)))
+priceOf b = gives b (if not (soundBench b) then Refused (refusal 20 0) else Count (b .glue))
 
 -- ---- finish: 20, 22 (lowest), 23 last; writes the mapping
 
@@ -153,9 +153,9 @@ abbrev pub finishWritten : Written → Answer
 finishWritten (written.Refused r) = Refused r
 finishWritten (written.Words n) = Mapping n
 
--- "header, 0 to 27 bindings, glue count"
+-- "header, 0 to 27 bindings, glue count", which is the stored one
 abbrev pub mappingOn : Bench → List ℕ
-mappingOn b = mappingWords (b .tables .width) (bindingsOn b) (glueOn (b .tables) (b .bound))
+mappingOn b = mappingWords (b .tables .width) (bindingsOn b) (b .glue)
 
 unfoldable pub finishOf : Bench → List ℕ → After
 finishOf b lent =

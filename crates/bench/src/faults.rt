@@ -8,7 +8,7 @@ pub fn is_sound(bench: Bench) -> bool
 {
     let tables = bench.tables;
     let bound = bench.bound;
-    soundness::is_sound(tables, bound)
+    soundness::is_sound(tables, bound, bench.glue)
 }
 
 // Refusals 20, 2, 3, 5, 6, 8 and 21 of a bind, or none.

@@ -15,10 +15,11 @@ ghost use mathlib.Core.Bool.{true};
 ghost use Rattle.writer.specs.Write as W;
 ghost use Rattle.bench.specs.Calls as C;
 
-// A job's tables, and an entry for each source, in table order, for what is bound to it.
+// A job's tables, an entry for each source, in table order, for what is bound to it, and the glue count of what is bound.
 pub struct Bench {
     pub tables: Tables,
     pub bound: [u32; MOST_SOURCES],
+    pub glue: u32,
 }
 
 // What a call answers: a job opened, a rule bound or a binding taken off; a price; how many words were written; a refusal; or refusal 10
@@ -42,7 +43,11 @@ fn empty_bench(tables: Tables) -> Bench
     ensures { λ r. ⌜ r ≡ C.emptyBench tables ⌝ }
 {
     let bound = [NOTHING; MOST_SOURCES];
-    Bench { tables, bound }
+    Bench {
+        tables,
+        bound,
+        glue: 0,
+    }
 }
 
 // The bench of zeros, which a job that is not opened leaves.
@@ -61,8 +66,7 @@ fn write(bench: Bench, lent: &mut [u32]) -> Answer
     let tables = bench.tables;
     let nsources = tables.nsources as usize;
     let bound = bench.bound;
-    let glue = soundness::glue_on(tables, bound);
-    let written = writer::write_mapping(tables.width, &bound[..nsources], glue, lent);
+    let written = writer::write_mapping(tables.width, &bound[..nsources], bench.glue, lent);
     match written {
         Written::Refused(refusal) => Answer::Refused(refusal),
         Written::Words(count) => Answer::Mapping(count),
@@ -111,6 +115,8 @@ impl Bench {
             },
             Verdict::Right => {
                 self.bound[entry] = word;
+                let bound = self.bound;
+                self.glue = soundness::glue_on(tables, bound);
                 After {
                     bench: self,
                     answer: Answer::Done,
@@ -146,13 +152,15 @@ impl Bench {
         }
         let entry = entries::entry_for(tables, function);
         self.bound[entry] = NOTHING;
+        let left = self.bound;
+        self.glue = soundness::glue_on(tables, left);
         After {
             bench: self,
             answer: Answer::Done,
         }
     }
 
-    // The glue count of what is bound: refusal 20.
+    // The glue count of what is bound, as it is stored: refusal 20.
     pub fn price(mut self) -> After
         ensures { λ r. ⌜ r ≡ C.priceOf self ⌝ }
     {
@@ -165,11 +173,9 @@ impl Bench {
                 }),
             };
         }
-        let tables = self.tables;
-        let bound = self.bound;
         After {
             bench: self,
-            answer: Answer::Count(soundness::glue_on(tables, bound)),
+            answer: Answer::Count(self.glue),
         }
     }
 
@@ -180,7 +186,7 @@ impl Bench {
     {
         let tables = self.tables;
         let bound = self.bound;
-        if !soundness::is_sound(tables, bound) {
+        if !soundness::is_sound(tables, bound, self.glue) {
             return After {
                 bench: self,
                 answer: Answer::Refused(Refusal {

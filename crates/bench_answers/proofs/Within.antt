@@ -21,7 +21,7 @@ use Rattle.reader.specs.declared.JobRead.the-variants as read
 use Rattle.writer.specs.Write.{wordsNeeded, writtenOf}
 use Rattle.writer.specs.declared.Written.{Written}
 use Rattle.writer.specs.declared.Written.the-variants as written
-use Rattle.soundness.specs.Sound.{nothing, glueOn}
+use Rattle.soundness.specs.Sound.{nothing}
 use Rattle.input.specs.declared.Input.{Input}
 use Rattle.bench.specs.Calls.{soundBench, gives, benchOfZeros, openFor, openOf, bindFault, bindPlace, claimOn, boundAt, entryFor, hasBinding, bindOf, WrongAt, BindRuled, Binds, releaseOf, priceOf, unboundOn, finishWritten, finishOf}
 use Rattle.bench.specs.declared.Bench.{Bench}
@@ -100,7 +100,7 @@ pub price-within : (b : Bench) (lent : List ℕ) (r : After) → r ≡ priceOf b
 unfolding priceOf
 price-within b lent r e =
     subst (λ (x : After). wordsFinished (x .answer) ≤ length lent) (sym e)
-    (either (λ (a : Answer). wordsFinished a ≤ length lent) (not (soundBench b)) {x = Refused (refusal 20 0)} {y = Count (glueOn (b .tables) (b .bound))}
+    (either (λ (a : Answer). wordsFinished a ≤ length lent) (not (soundBench b)) {x = Refused (refusal 20 0)} {y = Count (b .glue)}
     (λ _. omega arith) (λ _. omega arith))
 
 -- ---- finish

@@ -1,8 +1,9 @@
-// The bench's calls, on benches as the reference has them: 87 words. Here alone a bench and its answers are taken apart.
+// The bench's calls, on benches as the second account has them: 88 words. Here alone a bench and its answers are taken apart.
 use crate::files::LENT;
 use crate::files::lent_holds;
 use accounts::sound::BENCH_WORDS;
 use accounts::sound::BOUND;
+use accounts::sound::GLUE;
 use accounts::sound::NSOURCES;
 use accounts::sound::NTARGETS;
 use accounts::sound::TARGETS;
@@ -52,6 +53,7 @@ fn bench_of(words: [u32; BENCH_WORDS]) -> Bench {
     Bench {
         tables,
         bound: table_of(words, BOUND),
+        glue: words[GLUE],
     }
 }
 
@@ -80,6 +82,7 @@ fn words_of(bench: Bench) -> [u32; BENCH_WORDS] {
     words[84] = prices.inverter as u32;
     words[85] = prices.gate as u32;
     words[86] = prices.multiplexer as u32;
+    words[GLUE] = bench.glue;
     words
 }
 

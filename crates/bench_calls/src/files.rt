@@ -1,10 +1,12 @@
 // The rules of the mapping that document 01 prints, benches put together without the library, and words beside each other.
 use accounts::sound::BENCH_WORDS;
 use accounts::sound::BOUND;
+use accounts::sound::GLUE;
 use accounts::sound::NSOURCES;
 use accounts::sound::NTARGETS;
 use accounts::sound::TARGETS;
 use accounts::sound::WIDTH;
+use accounts::sound::count_on;
 use std::num::wrapping_add_usize;
 use testing::words::MAPPING;
 use testing::words::at;
@@ -36,6 +38,13 @@ pub const ALL: u32 = 15;
 // Among the sets: the job of LT and, as its target, RINHI, with nothing bound.
 pub const INHIBIT: u32 = 32;
 
+// A bench with the count of what is bound to it, whatever it stored.
+pub fn counted(bench: [u32; BENCH_WORDS]) -> [u32; BENCH_WORDS] {
+    let mut words = bench;
+    words[GLUE] = count_on(&bench);
+    words
+}
+
 // The bench of the printed job at a width, with a set of rules bound.
 fn printed_bench(width: u32, bound: u32) -> [u32; BENCH_WORDS] {
     let mut words = [0u32; BENCH_WORDS];
@@ -52,7 +61,7 @@ fn printed_bench(width: u32, bound: u32) -> [u32; BENCH_WORDS] {
     words[85] = 1;
     words[86] = 3;
     bind_set(&mut words, bound);
-    words
+    counted(words)
 }
 
 // The rule by its index, where b, or 0.
@@ -82,7 +91,7 @@ pub fn inhibit_bench(width: u32, word: u32) -> [u32; BENCH_WORDS] {
     words[WIDTH] = width;
     words[NSOURCES] = 1;
     words[NTARGETS] = 1;
-    words
+    counted(words)
 }
 
 // A bench at a width by a set of what is bound; width 0 stands for the bench of zeros.
@@ -106,16 +115,19 @@ fn put_functions(words: &mut [u32], from: usize, kind: u32) {
     }
 }
 
-// The largest bench: every function a source and a target, and each bound to itself.
+// The largest bench: every function a source and a target, and each bound to itself; no two prices are alike.
 pub fn whole_bench(width: u32) -> [u32; BENCH_WORDS] {
     let mut words = [0u32; BENCH_WORDS];
     words[WIDTH] = width;
     words[NSOURCES] = 27;
     words[NTARGETS] = 27;
+    words[84] = 2;
+    words[85] = 5;
+    words[86] = 7;
     put_functions(&mut words, 0, 3);
     put_functions(&mut words, TARGETS, 4);
     put_functions(&mut words, BOUND, 5);
-    words
+    counted(words)
 }
 
 pub fn same_bench(one: &[u32; BENCH_WORDS], other: &[u32; BENCH_WORDS]) -> bool {

@@ -3,6 +3,7 @@ use accounts::sound::BENCH_WORDS;
 use bench_calls::calls;
 use bench_calls::calls::Told;
 use bench_calls::files::bench_with;
+use bench_calls::files::counted;
 use bench_calls::files::same_bench;
 use bench_calls::lines;
 use reference::answer::NOT_SHOWN;
@@ -80,7 +81,7 @@ fn is_as_said(bench: [u32; BENCH_WORDS], word: u32, index: usize, told: Told) ->
     let answer = told.answer;
     let mut expected = bench;
     put(&mut expected, index, word);
-    same_bench(&next, &expected) & (answer.number != NOT_SHOWN)
+    same_bench(&next, &counted(expected)) & (answer.number != NOT_SHOWN)
 }
 
 fn show_bind(name: &[u8], bench: [u32; BENCH_WORDS], word: u32, index: usize) {

@@ -1,5 +1,7 @@
-// The printed job bound in the order of its sources, priced after each call, finished and checked.
+// The printed job bound in the order of its sources, finished and checked, and released in another order; the stored count and the price
+// after each call.
 use accounts::sound::BENCH_WORDS;
+use accounts::sound::GLUE;
 use bench_calls::calls;
 use bench_calls::calls::Told;
 use bench_calls::files::RULES;
@@ -11,30 +13,37 @@ use reference::answer::same_answer;
 use testing::say;
 use testing::words::JOB;
 
-// The prices after each of the four rules.
+// The counts after each of the four rules.
 const PRICES: [usize; 4] = [0, 64, 144, 148];
 
-// The price of a bench, which is to be the stored one.
-fn show_price(bench: [u32; BENCH_WORDS], stored: usize) {
+// RSUB, LT, ADD and AND, and the counts after each is released.
+const RELEASED: [u32; 4] = [3, 25, 1, 8];
+
+const LEFT: [usize; 4] = [84, 80, 32, 0];
+
+// The price of a bench and the count that it stores, which are to be the expected one.
+fn show_price(bench: [u32; BENCH_WORDS], expected: usize) {
     let told = calls::price(bench);
     let price = told.answer;
     lines::answer(b"", price);
-    let same = same_answer(price, answered(PRICED, 0, stored));
-    lines::whether(same, b"\n| NOT AS STORED\n");
+    say::count(b", stored ", bench[GLUE] as u64);
+    let same = same_answer(price, answered(PRICED, 0, expected))
+        & (bench[GLUE] as usize == expected);
+    lines::whether(same, b"\n| NOT AS EXPECTED\n");
 }
 
 // Whether a call was done, and the price of the bench that came back with it.
-fn show_step(told: Told, stored: usize) {
+fn show_step(told: Told, expected: usize) {
     let answer = told.answer;
     let bench = told.bench;
     lines::whether(answer.form == DONE, b" done| REFUSED");
-    show_price(bench, stored);
+    show_price(bench, expected);
 }
 
-fn show_bind(bench: [u32; BENCH_WORDS], rule: u32, stored: usize) -> [u32; BENCH_WORDS] {
+fn show_bind(bench: [u32; BENCH_WORDS], rule: u32, expected: usize) -> [u32; BENCH_WORDS] {
     let told = calls::bind(bench, rule);
     say::word(b"    bind ", rule);
-    show_step(told, stored);
+    show_step(told, expected);
     let next = told.bench;
     next
 }
@@ -48,6 +57,24 @@ fn bind_all(opened: Told) -> [u32; BENCH_WORDS] {
         i += 1;
     }
     bench
+}
+
+fn show_release(bench: [u32; BENCH_WORDS], function: u32, expected: usize) -> [u32; BENCH_WORDS] {
+    let told = calls::release(bench, function);
+    say::count(b"    release ", function as u64);
+    show_step(told, expected);
+    let next = told.bench;
+    next
+}
+
+fn release_all(all_bound: [u32; BENCH_WORDS]) {
+    let mut bench = all_bound;
+    let mut i = 0;
+    while i < 4 {
+        let next = show_release(bench, RELEASED[i], LEFT[i]);
+        bench = next;
+        i += 1;
+    }
 }
 
 // Into eight words, of which six are written.
@@ -68,5 +95,7 @@ pub fn report() {
     say::text(b"the printed job\n    open");
     let opened = calls::open(&JOB);
     show_step(opened, 0);
-    show_finish(bind_all(opened));
+    let bench = bind_all(opened);
+    show_finish(bench);
+    release_all(bench);
 }

@@ -1,11 +1,13 @@
 // The bench's calls on spoilt benches, beside the reference's account of which are sound.
 use accounts::sound::BENCH_WORDS;
+use accounts::sound::GLUE;
 use accounts::sound::is_sound;
 use bench_calls::calls;
 use bench_calls::calls::Told;
 use bench_calls::files::ADD_AND_LT;
 use bench_calls::files::RSUB_RULE;
 use bench_calls::files::bench_with;
+use bench_calls::files::counted;
 use bench_calls::files::inhibit_bench;
 use bench_calls::files::same_bench;
 use bench_calls::files::whole_bench;
@@ -41,12 +43,13 @@ fn is_fair(told: Told, bench: [u32; BENCH_WORDS], sound: bool) -> bool {
     (refused ^ sound) & (sound | kept)
 }
 
-// A bench that is sound is priced, and keeps as it is.
+// A bench that is sound is priced at what it stores, and keeps as it is.
 fn price_is_fair(bench: [u32; BENCH_WORDS], sound: bool) -> bool {
     let told = calls::price(bench);
     let price = told.answer;
     let next = told.bench;
-    ((price.form == PRICED) ^ !sound) & same_bench(&next, &bench) & is_fair(told, bench, sound)
+    let priced = same_answer(price, answered(PRICED, 0, bench[GLUE] as usize));
+    (priced ^ !sound) & same_bench(&next, &bench) & is_fair(told, bench, sound)
 }
 
 fn with(all: Tally, bench: [u32; BENCH_WORDS]) -> Tally {
@@ -62,7 +65,7 @@ fn with(all: Tally, bench: [u32; BENCH_WORDS]) -> Tally {
     }
 }
 
-// A bit turned: of the three tables and the three numbers 32 a word, then of the prices 8.
+// A bit turned: of the three tables and the three numbers 32 a word, then of the prices 8, then of the stored count 32.
 fn turned(bench: [u32; BENCH_WORDS], i: u32) -> [u32; BENCH_WORDS] {
     let mut words = bench;
     if i < 2688 {
@@ -70,16 +73,25 @@ fn turned(bench: [u32; BENCH_WORDS], i: u32) -> [u32; BENCH_WORDS] {
         words[index] = words[index] ^ (1u32 << (i % 32));
         return words;
     }
-    let price = (i / 8 % 3 + 84) as usize;
-    words[price] = words[price] ^ (1u32 << (i % 8));
+    if i < 2712 {
+        let price = (i / 8 % 3 + 84) as usize;
+        words[price] = words[price] ^ (1u32 << (i % 8));
+        return words;
+    }
+    words[GLUE] = words[GLUE] ^ (1u32 << (i % 32));
     words
 }
 
-fn with_each_bit(bench: [u32; BENCH_WORDS]) -> Tally {
+// As it is, or with its count set right.
+fn as_counted(bench: [u32; BENCH_WORDS], anew: bool) -> [u32; BENCH_WORDS] {
+    if anew { counted(bench) } else { bench }
+}
+
+fn with_each_bit(bench: [u32; BENCH_WORDS], anew: bool) -> Tally {
     let mut all = empty();
     let mut i: u32 = 0;
-    while i < 2712 {
-        let next = with(all, turned(bench, i));
+    while i < 2744 {
+        let next = with(all, as_counted(turned(bench, i), anew));
         all = next;
         i += 1;
     }
@@ -87,13 +99,13 @@ fn with_each_bit(bench: [u32; BENCH_WORDS]) -> Tally {
 }
 
 // The words of the printed job and of its mapping, and 0, at each index of the three tables.
-fn with_each_word(bench: [u32; BENCH_WORDS]) -> Tally {
+fn with_each_word(bench: [u32; BENCH_WORDS], anew: bool) -> Tally {
     let mut all = empty();
     let mut i = 0;
     while i < 1701 {
         let mut words = bench;
         words[i % 81] = printed_word(i / 81);
-        let next = with(all, words);
+        let next = with(all, as_counted(words, anew));
         all = next;
         i += 1;
     }
@@ -112,8 +124,10 @@ fn report_group(name: &[u8], all: Tally) {
 fn report_bench(name: &[u8], bench: [u32; BENCH_WORDS]) {
     say::text(name);
     report_group(b"\n    as it is", with(empty(), bench));
-    report_group(b"    a bit turned", with_each_bit(bench));
-    report_group(b"    a word replaced", with_each_word(bench));
+    report_group(b"    a bit turned", with_each_bit(bench, false));
+    report_group(b"    and counted anew", with_each_bit(bench, true));
+    report_group(b"    a word replaced", with_each_word(bench, false));
+    report_group(b"    and counted anew", with_each_word(bench, true));
 }
 
 pub fn report() {

@@ -99,7 +99,7 @@ module _ (b : Bench) (n : length (b .bound) ≡ mostSources) (x y : ℕ) (a : Al
         arith,
         tables-entry b x (a .unrefused .there),
         length-take (b .tables .nsources) (b .tables .sources),
-        sound-sources (b .tables) (b .bound) (a .unrefused .sound),
+        sound-sources (b .tables) (b .bound) (b .glue) (a .unrefused .sound),
       )
 
   there-empty : getD (set (b .bound) (entryFor b (sourceOf x)) x) (entryFor b (sourceOf y)) 0 ≡ 0

@@ -195,7 +195,7 @@ module _ (ws : List ℕ) (job : Job) (e : WellFormedJob ws job) (bound : List �
 
   opened-table : holding (opened ws job) (tableOf mostSources []) ≡ opened ws job
   unfolding tableOf
-  opened-table = refl
+  opened-table = sym (opened-of-job ws job e .as-opened)
 
   module _ (order : List ℕ) (p : List·Permᴰ bound order) where
     ordered : Runs (opened ws job) order (holding (opened ws job) (tableOf mostSources bound))

@@ -1,5 +1,5 @@
 -- The benches of a job: what the calls come to from opening it on, each of them sound; and what one with every source bound holds.
-use mathlib.Core.Path.{_≡_, refl, sym, ap, subst, _∙_}
+use mathlib.Core.Path.{_≡_, sym, ap, subst, _∙_}
 use mathlib.Core.Bool.{true}
 use mathlib.Core.List.{List}
 use Prim.Native.Nat.{ℕ, _-_, _≤_, _<_}
@@ -15,14 +15,14 @@ use Rattle.table.specs.Parts.{sourcesOf, targetsOf}
 use Rattle.table.specs.Table.{hasTarget}
 use Rattle.soundness.specs.Sound.{sourcesOn, targetsOn}
 use Rattle.opening.specs.Opening.{tableOf, tablesIn}
-use Rattle.bench.specs.Calls.{soundBench, holding, bindingsOn, opened, openFor, openOf, releaseOf, priceOf, unboundOn, finishOf}
+use Rattle.bench.specs.Calls.{benchWith, soundBench, holding, bindingsOn, opened, openFor, openOf, releaseOf, priceOf, unboundOn, finishOf}
 use Rattle.bench.specs.Shape.{Shaped}
 use Rattle.bench.specs.declared.Bench.{Bench}
 use Rattle.bench.specs.declared.After.{After}
 use Rattle.demands.specs.Benches.{Reached, opening, binding, releasing, pricing, finishing, BenchOf}
 use Rattle.demands.proofs.Parts.{source-at}
 use Rattle.demands.proofs.Written.{Bindable}
-use Rattle.demands.proofs.OpenedSound.{table-words, source-count, target-count, opened-sound}
+use Rattle.demands.proofs.OpenedSound.{zeros-count, table-words, source-count, target-count, opened-sound}
 use Rattle.demands.proofs.Keeping.{bind-keeps-sound}
 use Rattle.demands.proofs.Allowed.{Outcome, Bound, Unchanged, outcome, boundOn}
 use Rattle.demands.proofs.Releasing.{Release, Released, Kept, releasedOn, release, released-sound}
@@ -54,8 +54,11 @@ module _ (ws : List ℕ) (job : Job) where
   after-bind b w r o s (Unchanged _ q) = subst (BenchOf ws job) (sym q) o
 
   module _ (e : WellFormedJob ws job) where
+    stores-none : opened ws job ≡ holding (opened ws job) (opened ws job .bound)
+    stores-none = ap (benchWith (tablesIn ws job) (replicate mostSources 0)) (sym (zeros-count (tablesIn ws job) mostSources))
+
     pub opened-of-job : BenchOf ws job (opened ws job)
-    opened-of-job = record { as-opened = refl; entries = length-replicate {A = ℕ} mostSources 0; sound = opened-sound ws job e }
+    opened-of-job = record { as-opened = stores-none; entries = length-replicate {A = ℕ} mostSources 0; sound = opened-sound ws job e }
 
     pub opens : openOf ws .bench ≡ opened ws job
     unfolding openOf

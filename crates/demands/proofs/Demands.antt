@@ -20,6 +20,7 @@ use Rattle.reader.specs.Job.{WellFormedJob}
 use Rattle.reader.specs.declared.Job.{Job}
 use Rattle.reader.specs.declared.Mapping.{Mapping}
 use Rattle.table.specs.Parts.{sourcesOf, termsOf}
+use Rattle.pricer.specs.Pricing.{glueOf}
 use Rattle.writer.specs.Write.{wordsNeeded}
 use Rattle.choice.specs.Choose.{Mapped}
 use Rattle.mapper.specs.Mapping.{rulesFor, choiceOf, chosenWords, answerOf, lentAfterMap}
@@ -49,7 +50,7 @@ use Rattle.demands.proofs.Allowed.{Allowed, allowed-gives}
 use Rattle.demands.proofs.Finished.{finishes}
 use Rattle.demands.proofs.Benches.{opens, reached-of-job}
 use Rattle.demands.proofs.AnyOrder.{choice-allowed, order-binds, order-ends, order-of-job}
-use Rattle.demands.proofs.Finishing.{bench-shaped, bound-rightly-mapped, same-answer, same-lent}
+use Rattle.demands.proofs.Finishing.{bench-shaped, bound-rightly-mapped, same-count, same-answer, same-lent}
 use Rattle.demands.proofs.OwnJob.{of-own-job}
 use Rattle.demands.proofs.Values.{chosen-each}
 use Rattle.demands.proofs.Judging.{judged-right, right-judged}
@@ -161,7 +162,7 @@ module _ (ws : List ℕ) (job : Job) (e : WellFormedJob ws job) where
             (order-binds ws job e bound choice order p),
       )
 
-      -- and whatever it comes to holds the choice, and answers and writes as the mapper does.
+      -- and whatever it comes to holds the choice, stores the mapper's count, and answers and writes as the mapper does.
       module _ (end : Bench) (q : BindsAll (openOf ws .bench) order end) where
         the-end : end ≡ holding (opened ws job) (tableOf mostSources bound)
         the-end =
@@ -169,6 +170,10 @@ module _ (ws : List ℕ) (job : Job) (e : WellFormedJob ws job) where
 
         pub every-order-holds-the-choice : end .bound ≡ tableOf mostSources bound
         every-order-holds-the-choice = ap (λ (x : Bench). x .bound) the-end
+
+        pub every-order-ends-with-the-count : end .glue ≡ glueOf job bound
+        every-order-ends-with-the-count =
+            ap (λ (x : Bench). x .glue) the-end ∙ same-count ws job e bound choice (order-of-job ws job e bound choice order p)
 
         pub every-order-answers-the-same : (lent : List ℕ)
             → bench.paperOf (finishOf end lent .answer) ≡ mapper.paperOf (answerOf ws lent)

@@ -48,7 +48,7 @@ entry-source (s ∷ ss) f l = go (eqb (sourceFunction s) f) refl (entry-source s
 
 pub adds : (b : Bench) → Shaped b → (w : ℕ) → Allowed b w → Adds b w (boundOn b w)
 adds b h w a =
-    let few = sound-sources (b .tables) (b .bound) (a .unrefused .sound) in
+    let few = sound-sources (b .tables) (b .bound) (b .glue) (a .unrefused .sound) in
     let there = tables-entry b w (a .unrefused .there) in
     let size = sources-taken b h few in
     record {
@@ -60,6 +60,7 @@ adds b h w a =
       others-same = λ k other. getD-set-other (b .bound) (entryFor b (sourceOf w)) k w 0 other;
       entries-same = length-set (b .bound) (entryFor b (sourceOf w)) w;
       tables-same = refl;
+      count = refl;
     }
 
 -- ---- the first source with nothing bound
@@ -128,7 +129,7 @@ pub lowest-unbound : (b : Bench) → Shaped b → soundBench b ≡ true → (unb
 lowest-unbound b h s some =
     let j = of-own-job b h s in
     let f = first-empty (sourcesOn (b .tables)) (b .bound) some in
-    let size = sources-taken b h (sound-sources (b .tables) (b .bound) s) in
+    let size = sources-taken b h (sound-sources (b .tables) (b .bound) (b .glue) s) in
     record {
       index = f .at;
       within = omega (arith, f .within);

@@ -19,7 +19,7 @@ use Rattle.table.specs.Table.{hasTarget}
 use Rattle.claims.specs.Claim.{claimIn}
 use Rattle.writer.specs.Write.{wordsNeeded, writtenOf}
 use Rattle.writer.proofs.Writing.{mapping-length, written-words}
-use Rattle.soundness.specs.Sound.{sourcesOn, targetsOn, filled, ruleFault, bindable, entrySound, boundSound, glueOn}
+use Rattle.soundness.specs.Sound.{sourcesOn, targetsOn, filled, ruleFault, bindable, entrySound, boundSound}
 use Rattle.soundness.proofs.Soundness.{sound-holds, sound-sources}
 use Rattle.bench.specs.Calls.{soundBench, bindingsOn, gives, unboundOn, mappingOn, finishOf, lentAfterFinish}
 use Rattle.entries.specs.Entries.{firstEmpty}
@@ -99,10 +99,10 @@ module _ (b : Bench) (h : Shaped b) (s : soundBench b ≡ true) (u : unboundOn b
       let n = b .tables .width in
       let ss = sourcesOn (b .tables) in
       let ts = targetsOn (b .tables) in
-      let few = sound-sources (b .tables) (b .bound) s in
+      let few = sound-sources (b .tables) (b .bound) (b .glue) s in
       let e : getD (b .bound) m 0 ≡ getD (bindingsOn b) m 0
       = sym (getD-take (b .tables .nsources) (b .bound) m 0 l) ∙ ap (λ (x : List ℕ). getD x m 0) (all-bound b h s u) in
-      let there = entry-at n ss ts ss (b .bound) m (sound-holds (b .tables) (b .bound) s .entries)
+      let there = entry-at n ss ts ss (b .bound) m (sound-holds (b .tables) (b .bound) (b .glue) s .entries)
       (omega (arith, sources-taken b h few)) (omega (arith, h .bound-entries, few)) in
       recipe-at n ss ts (getD ss m 0) (getD (bindingsOn b) m 0)
       (subst (λ (x : ℕ). entrySound n ss ts (getD ss m 0) x ≡ true) e there)
@@ -112,7 +112,7 @@ module _ (b : Bench) (h : Shaped b) (s : soundBench b ≡ true) (u : unboundOn b
   unfolding finishOf lentAfterFinish writtenOf
   finishes lent room =
       let n : length (mappingOn b) ≡ wordsNeeded (b .tables .nsources)
-      = mapping-length (b .tables .width) (glueOn (b .tables) (b .bound)) (bindingsOn b) ∙ ap wordsNeeded binding-number in
+      = mapping-length (b .tables .width) (b .glue) (bindingsOn b) ∙ ap wordsNeeded binding-number in
       record {
         answer = rw s (rw (eq-eqb (unboundOn b) 0 u) (rw (le-ltb (length lent) (wordsNeeded (b .tables .nsources)) room) refl));
         words =

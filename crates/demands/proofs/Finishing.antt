@@ -14,6 +14,7 @@ use Rattle.sequence.specs.Limits.{mostSources}
 use Rattle.reader.specs.Job.{WellFormedJob}
 use Rattle.reader.specs.declared.Job.{Job}
 use Rattle.wellformed.proofs.JobWords.{well-formed}
+use Rattle.pricer.specs.Pricing.{glueOf}
 use Rattle.writer.specs.Write.{wordsNeeded, writtenOf, lentAfter}
 use Rattle.writer.specs.declared.Written.{Written}
 use Rattle.writer.specs.declared.Written.the-variants.{Words, Refused as TooFew}
@@ -76,6 +77,11 @@ module _ (ws : List ℕ) (job : Job) (e : WellFormedJob ws job) (bound : List �
       sym (all-bound chosen (bench-shaped ws job e chosen o) (o .sound) all-held)
       ∙ table-words mostSources bound (job .sources) (size ws job e bound eb)
 
+  -- its count is the mapper's
+  pub same-count : chosen .glue ≡ glueOf job bound
+  unfolding glueOn
+  same-count = ap (glueOf job) held
+
   same-paper : (r : Written) → paperOf (finishWritten r) ≡ mapper.paperOf (mapper.mapWritten r)
   same-paper (Words n) = refl
   same-paper (TooFew r) = refl
@@ -110,7 +116,7 @@ module _ (b : Bench) (h : Shaped b) (lent : List ℕ) where
           (omega (
             arith,
             ltb-true (length lent) (wordsNeeded (b .tables .nsources)) z,
-            mapping-length (b .tables .width) (glueOn (b .tables) (b .bound)) (bindingsOn b),
+            mapping-length (b .tables .width) (b .glue) (bindingsOn b),
             binding-number b h s u,
           ))
       too-few s u false z e = absurd (true≢false e)

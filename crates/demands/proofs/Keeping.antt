@@ -61,16 +61,17 @@ module _ (n : ℕ) (all ts : List ℕ) (w : ℕ) (rule : ruleFault w ≡ 0) (tar
 pub bound-sound : (b : Bench) (w : ℕ) → Checked b w → isRight (claimOn b w) (b .tables .width) ≡ true
     → soundBench (boundAt b (entryFor b (sourceOf w)) w) ≡ true
 bound-sound b w c right =
-    let s = sound-holds (b .tables) (b .bound) (c .sound) in
+    let s = sound-holds (b .tables) (b .bound) (b .glue) (c .sound) in
     let ss = sourcesOn (b .tables) in
     let ts = targetsOn (b .tables) in
     let t = in-job-parts ss ts w (c .there) in
-    sound-when (b .tables) (set (b .bound) (entryFor b (sourceOf w)) w)
+    sound-when (b .tables) (set (b .bound) (entryFor b (sourceOf w)) w) _
     (record {
       tables = s .tables;
       past-sources = s .past-sources;
       past-targets = s .past-targets;
       entries = entries-keep (b .tables .width) ss ts w (c .a-rule) (t .1) right ss (b .bound) (t .0) (s .entries);
+      count = refl;
     })
 
 -- after any bind, accepted or refused

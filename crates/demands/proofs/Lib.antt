@@ -27,4 +27,5 @@ pub mod Judging
 pub mod Refusals
 pub mod Values
 pub mod Releases
+pub mod Counts
 pub mod Demands

@@ -21,8 +21,11 @@ use Rattle.wellformed.proofs.Parts.{Entry}
 use Rattle.wellformed.proofs.JobWords.{JobFacts, well-formed}
 use Rattle.wellformed.proofs.JobAccepting.{laid, laid-well-formed, accepts}
 use Rattle.table.specs.Parts.{sourcesOf, targetsOf}
-use Rattle.soundness.specs.Sound.{sourcesOn, targetsOn, tableWords, holds, tablesSound, empty, entrySound, boundSound, isSound}
+use Rattle.soundness.specs.Sound.{sourcesOn, targetsOn, tableWords, holds, tablesSound, empty, filled, entrySound, boundSound, glueOn, isSound}
+use Rattle.soundness.specs.declared.Tables.{Tables}
 use Rattle.soundness.proofs.Soundness.{sound-when}
+use Rattle.glue.specs.Glue.{glue}
+use Rattle.glue.proofs.Bounds.{glue-none}
 use Rattle.opening.specs.Opening.{tableOf, tablesIn}
 use Rattle.bench.specs.Calls.{soundBench, opened, benchOfZeros, openOf, openFor}
 use Rattle.bench.specs.declared.Answer.the-variants.{Done}
@@ -44,6 +47,15 @@ unfolding boundSound entrySound
 zeros-bound width all ts [] n = zeros-empty n
 zeros-bound width all ts (s ∷ ss) zero = refl
 zeros-bound width all ts (s ∷ ss) (suc n) = zeros-bound width all ts ss n
+
+pub filled-none : (n : ℕ) → filled (replicate n 0) ≡ []
+unfolding filled
+filled-none zero = refl
+filled-none (suc n) = filled-none n
+
+pub zeros-count : (t : Tables) (n : ℕ) → glueOn t (replicate n 0) ≡ 0
+unfolding glueOn
+zeros-count t n = ap (glue (t .width) (t .prices)) (filled-none n) ∙ glue-none (t .width) (t .prices)
 
 pub table-words : (most : ℕ) (ws : List ℕ) (n : ℕ) → length ws ≡ n → take n (tableOf most ws) ≡ ws
 unfolding tableOf
@@ -111,7 +123,7 @@ module _ (ws : List ℕ) (job : Job) (e : WellFormedJob ws job) where
   pub opened-sound : soundBench (opened ws job) ≡ true
   opened-sound =
       let t = tablesIn ws job in
-      sound-when t (replicate mostSources 0)
+      sound-when t (replicate mostSources 0) 0
       (record {
         tables = record {
           width = record { least = well .width-least; most = well .width-most };
@@ -125,6 +137,7 @@ module _ (ws : List ℕ) (job : Job) (e : WellFormedJob ws job) where
         past-sources = table-rest mostSources (sourcesOf ws job) (job .sources) source-count;
         past-targets = table-rest mostTargets (targetsOf ws job) (job .targets) target-count;
         entries = zeros-bound (job .width) (sourcesOn t) (targetsOn t) (sourcesOn t) mostSources;
+        count = sym (zeros-count t mostSources);
       })
 
 -- said of the call

@@ -20,11 +20,11 @@ use Rattle.wellformed.proofs.Parts.{content-of-laid}
 use Rattle.wellformed.proofs.JobWords.{JobFacts, well-formed}
 use Rattle.wellformed.proofs.JobAccepting.{laidPrices}
 use Rattle.table.specs.Parts.{sourcesOf, targetsOf}
-use Rattle.soundness.specs.Sound.{empty, sourcesOn, targetsOn, tableWords, holds}
+use Rattle.soundness.specs.Sound.{empty, sourcesOn, targetsOn, tableWords, holds, glueOn}
 use Rattle.soundness.specs.declared.Tables.{Tables}
 use Rattle.soundness.proofs.Soundness.{Sound, sound-holds}
 use Rattle.opening.specs.Opening.{tableOf, tablesIn}
-use Rattle.bench.specs.Calls.{soundBench}
+use Rattle.bench.specs.Calls.{benchWith, soundBench}
 use Rattle.bench.specs.Shape.{Shaped}
 use Rattle.bench.specs.declared.Bench.{Bench}
 use Rattle.demands.specs.Benches.{BenchOf}
@@ -63,8 +63,8 @@ module _ (b : Bench) (h : Shaped b) (s : soundBench b ≡ true) where
   abbrev words : List ℕ
   words = tableWords t
 
-  sound : Sound t (b .bound)
-  sound = sound-holds t (b .bound) s
+  sound : Sound t (b .bound) (b .glue)
+  sound = sound-holds t (b .bound) (b .glue) s
 
   -- the job that its words are read as
   record Own (job : Job) : Type 0 where
@@ -175,10 +175,13 @@ module _ (b : Bench) (h : Shaped b) (s : soundBench b ≡ true) where
             ∙ remade mostTargets (t .ntargets) (t .targets) (h .tables-shaped .targets-entries) (sound .tables .few-targets)
             (sound .past-targets)
 
+    own-count : b .glue ≡ glueOn (tablesIn words job) (b .bound)
+    own-count = sound .count ∙ ap (λ (x : Tables). glueOn x (b .bound)) (sym own-tables)
+
     own-bench : BenchOf words job b
     own-bench =
         record {
-          as-opened = λ i. record { tables = sym own-tables i; bound = b .bound };
+          as-opened = λ i. benchWith (sym own-tables i) (b .bound) (own-count i);
           entries = h .bound-entries;
           sound = s;
         }

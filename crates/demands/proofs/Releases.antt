@@ -23,7 +23,7 @@ use Rattle.soundness.specs.declared.Tables.{Tables}
 use Rattle.soundness.proofs.Soundness.{sound-holds, sound-sources}
 use Rattle.entries.specs.Entries.{isBound}
 use Rattle.entries.proofs.Searching.{bound-within}
-use Rattle.bench.specs.Calls.{soundBench, holding, entryFor, hasBinding, gives, BindRuled, Binds, releaseOf, paperOf}
+use Rattle.bench.specs.Calls.{benchWith, soundBench, holding, entryFor, hasBinding, gives, BindRuled, Binds, releaseOf, paperOf}
 use Rattle.bench.specs.Shape.{Shaped}
 use Rattle.bench.specs.declared.Bench.{Bench}
 use Rattle.bench.specs.declared.Answer.the-variants.{Done}
@@ -38,6 +38,10 @@ use Rattle.demands.proofs.Finished.{BoundRecipe, entry-at, recipe-at}
 use Rattle.demands.proofs.AnyOrder.{entry-of}
 use Rattle.demands.proofs.OwnJob.{of-own-job}
 use Rattle.demands.proofs.Entries.{entry-source, sources-apart}
+
+-- a sound bench stores the count of its own bindings
+held-again : (b : Bench) → soundBench b ≡ true → holding b (b .bound) ≡ b
+held-again b s = ap (benchWith (b .tables) (b .bound)) (sym (sound-holds (b .tables) (b .bound) (b .glue) s .count))
 
 -- ---- nothing stands past the sources
 
@@ -67,7 +71,7 @@ is-bound b f some = rw (ne-eqb (getD (b .bound) (entryFor b f) 0) 0 some) refl
 
 module _ (b : Bench) (h : Shaped b) (s : soundBench b ≡ true) where
   source-number : b .tables .nsources ≡ length (sourcesOn (b .tables))
-  source-number = sources-taken b h (sound-sources (b .tables) (b .bound) s)
+  source-number = sources-taken b h (sound-sources (b .tables) (b .bound) (b .glue) s)
 
   -- no two sources have the same function
   one-entry : (f k : ℕ) → k < b .tables .nsources → functionOn b k ≡ f → entryFor b f ≡ k
@@ -89,7 +93,7 @@ module _ (b : Bench) (h : Shaped b) (s : soundBench b ≡ true) where
               absurd
               (something-there b f u
               (past-empty (b .tables .width) (sourcesOn (b .tables)) (targetsOn (b .tables)) (sourcesOn (b .tables)) (b .bound)
-              (entryFor b f) (sound-holds (b .tables) (b .bound) s .entries) (omega arith)))
+              (entryFor b f) (sound-holds (b .tables) (b .bound) (b .glue) s .entries) (omega arith)))
         ]
 
     abbrev bound-to : BoundTo b f
@@ -109,6 +113,7 @@ module _ (b : Bench) (h : Shaped b) (s : soundBench b ≡ true) where
           others-same = λ k other. getD-set-other (b .bound) (entryFor b f) k 0 0 other;
           entries-same = length-set (b .bound) (entryFor b f) 0;
           tables-same = refl;
+          count = refl;
         }
 
     -- what is bound to it is a rule of it that could be bound
@@ -119,7 +124,7 @@ module _ (b : Bench) (h : Shaped b) (s : soundBench b ≡ true) where
         let ss = sourcesOn (b .tables) in
         let ts = targetsOn (b .tables) in
         recipe-at n ss ts (getD ss (entryFor b f) 0) (getD (b .bound) (entryFor b f) 0)
-        (entry-at n ss ts ss (b .bound) (entryFor b f) (sound-holds (b .tables) (b .bound) s .entries) entry-within entry-held)
+        (entry-at n ss ts ss (b .bound) (entryFor b f) (sound-holds (b .tables) (b .bound) (b .glue) s .entries) entry-within entry-held)
         (something-there b f u)
 
     -- a rule of the function that could be bound is bound
@@ -184,7 +189,7 @@ module _ (b : Bench) (h : Shaped b) where
   pub released-bench-is-sound : soundBench b ≡ true → (f : ℕ) → soundBench (releaseOf b f .bench) ≡ true
   released-bench-is-sound s f = release-keeps-sound b f s
 
-  -- "Releasing what was just bound gives back the earlier bench": the whole of it
+  -- "Releasing what was just bound gives back the earlier bench": the whole of it, its count included
   pub release-takes-back-a-bind : (w : ℕ) (r : After) → Binds b w r → paperOf (r .answer) ≡ accepted []
       → releaseOf (r .bench) (sourceOf w) ≡ gives b Done
   release-takes-back-a-bind w r answer taken = by-outcome (outcome b w r answer)
@@ -192,15 +197,16 @@ module _ (b : Bench) (h : Shaped b) where
       taken-back : Allowed b w → releaseOf (boundOn b w) (sourceOf w) ≡ gives b Done
       taken-back a =
           let i = entryFor b (sourceOf w) in
-          let few = sources-taken b h (sound-sources (b .tables) (b .bound) (a .unrefused .sound)) in
+          let few = sources-taken b h (sound-sources (b .tables) (b .bound) (b .glue) (a .unrefused .sound)) in
           let held : getD (set (b .bound) i w) i 0 ≡ w
-          = getD-set-same (b .bound) i w 0 (omega (arith, tables-entry b w (a .unrefused .there), h .bound-entries, sound-sources (b .tables) (b .bound) (a .unrefused .sound), few)) in
+          = getD-set-same (b .bound) i w 0 (omega (arith, tables-entry b w (a .unrefused .there), h .bound-entries, sound-sources (b .tables) (b .bound) (b .glue) (a .unrefused .sound), few)) in
           releases (boundOn b w) (sourceOf w) (allowed-sound b w a)
           (is-bound (boundOn b w) (sourceOf w) (λ z. rule-some w (a .unrefused .a-rule) (sym held ∙ z)))
           ∙ ap (λ (x : List ℕ). gives (holding b x) Done)
           (set-set (b .bound) i w 0
           ∙ ap (set (b .bound) i) (sym (nothing-there b (sourceOf w) (a .unrefused .free)))
           ∙ set-getD (b .bound) i 0)
+          ∙ ap (λ (x : Bench). gives x Done) (held-again b (a .unrefused .sound))
 
       by-outcome : Outcome b w r → releaseOf (r .bench) (sourceOf w) ≡ gives b Done
       by-outcome (Bound a e) = ap (λ (x : After). releaseOf (x .bench) (sourceOf w)) e ∙ taken-back a
@@ -226,6 +232,7 @@ module _ (b : Bench) (h : Shaped b) where
             (c .is-right) of r
             (subst (λ (x : ℕ). Binds (releasedOn b f) (getD (b .bound) x 0) r) (sym (one-entry b h s f k l e)) bound)
             ∙ ap (λ (x : List ℕ). gives (holding b x) Done) (set-getD (b .bound) i 0)
+            ∙ ap (λ (x : Bench). gives x Done) (held-again b s)
 
         by-outcome : Release b f → r ≡ gives b Done
         by-outcome (Released s u q) = again s u (subst (λ (x : After). Binds (x .bench) (entryOn b k) r) q answer)

@@ -77,15 +77,16 @@ entries-emptied n all ts (s ∷ ss) (w ∷ bs) (suc i) e =
 
 pub released-sound : (b : Bench) (f : ℕ) → soundBench b ≡ true → soundBench (releasedOn b f) ≡ true
 released-sound b f s =
-    let h = sound-holds (b .tables) (b .bound) s in
+    let h = sound-holds (b .tables) (b .bound) (b .glue) s in
     let ss = sourcesOn (b .tables) in
     let ts = targetsOn (b .tables) in
-    sound-when (b .tables) (set (b .bound) (entryFor b f) 0)
+    sound-when (b .tables) (set (b .bound) (entryFor b f) 0) _
     (record {
       tables = h .tables;
       past-sources = h .past-sources;
       past-targets = h .past-targets;
       entries = entries-emptied (b .tables .width) ss ts ss (b .bound) (entryFor b f) (h .entries);
+      count = refl;
     })
 
 -- after any release, accepted or refused

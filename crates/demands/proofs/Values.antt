@@ -4,10 +4,10 @@
 use mathlib.Core.Path.{_≡_, refl, sym, ap, subst, _∙_}
 use mathlib.Core.Bool.{Bool, true, false, not}
 use mathlib.Core.List.{List, [], _∷_}
-use Prim.Native.Nat.{ℕ, zero, suc, _^_, _≤_, _<_}
+use Prim.Native.Nat.{ℕ, _^_, _≤_, _<_}
 use native.Mathlib.Omega.{arith}
 use lib.Dec.{eqb, ltb}
-use lib.ListN.{length, take, drop, replicate}
+use lib.ListN.{length, take, drop}
 use borrow.Author.Tests.{eqb-false, lt-leb, le-ltb}
 use Rattle.words.specs.Choice.{if_then_else_}
 use Rattle.words.specs.Paper.{Paper, refusal, accepted, refused, sourcePlace}
@@ -40,7 +40,7 @@ use Rattle.mapper.specs.Mapping as mapper
 use Rattle.mapper.proofs.Answering.{sources-length}
 use Rattle.checker.specs.Check.{Checks}
 use Rattle.checker.specs.declared.Checked.{Checked}
-use Rattle.soundness.specs.Sound.{filled, glueOn}
+use Rattle.soundness.specs.Sound.{glueOn}
 use Rattle.bench.specs.Calls.{soundBench, bindingsOn, opened, priceOf, unboundOn, mappingOn, finishWritten, finishOf}
 use Rattle.bench.specs.Calls as bench
 use Rattle.bench.specs.Shape.{Shaped}
@@ -59,7 +59,7 @@ use Rattle.demands.proofs.Outcomes.{accepted-apart, Outcome, Unread, Un
 use Rattle.demands.proofs.Written.{reads-back, same-bindings}
 use Rattle.demands.proofs.Accepting.{unbound-whatever-the-bindings}
 use Rattle.demands.proofs.Allowed.{Outcome as Bind, Bound as IsBound, Unchanged, outcome as bind}
-use Rattle.demands.proofs.OpenedSound.{opened-sound}
+use Rattle.demands.proofs.OpenedSound.{filled-none, opened-sound}
 use Rattle.demands.proofs.Finished.{binding-number}
 use Rattle.demands.proofs.Benches.{all-bindable}
 use Rattle.demands.proofs.Finishing.{same-words}
@@ -218,7 +218,7 @@ module _ (b : Bench) (h : Shaped b) where
                 ap (λ (l : List ℕ). reader.paperOf (mappingOf l)) same
                 ∙ ap reader.paperOf (reads-back ws job e (bindingsOn b) bindable)
                 ∙ ap (λ (k : ℕ). accepted (job .width ∷ k ∷ glueOf job (bindingsOn b) ∷ [])) size
-                ∙ ap (λ (x : Bench). accepted (x .tables .width ∷ b .tables .nsources ∷ glueOn (x .tables) (b .bound) ∷ [])) (sym opened);
+                ∙ ap (λ (x : Bench). accepted (x .tables .width ∷ b .tables .nsources ∷ x .glue ∷ [])) (sym opened);
             bindings =
                 ap (λ (l : List ℕ). take (b .tables .nsources) (drop bindingsStart l)) same
                 ∙ ap (λ (k : ℕ). take k (drop bindingsStart (chosenWords job (bindingsOn b)))) (sym size)
@@ -228,11 +228,6 @@ module _ (b : Bench) (h : Shaped b) where
 -- "The empty bench prices at 0.": a sound bench with nothing bound, and so the bench of an opened job
 pub empty-bench-prices-at-zero : (b : Bench) → soundBench b ≡ true → bindingsOn b ≡ [] → bench.paperOf (priceOf b .answer) ≡ accepted (0 ∷ [])
 empty-bench-prices-at-zero b s none = ap (λ (x : After). bench.paperOf (x .answer)) (empty-price b s none)
-
-filled-none : (n : ℕ) → filled (replicate n 0) ≡ []
-unfolding filled
-filled-none zero = refl
-filled-none (suc n) = filled-none n
 
 pub opened-bench-prices-at-zero : (ws : List ℕ) (job : Job) → WellFormedJob ws job
     → bench.paperOf (priceOf (opened ws job) .answer) ≡ accepted (0 ∷ [])

@@ -1,11 +1,11 @@
--- The words in which the bench's promises are said: document 01, "Mapper and bench", and request #102.
+-- The words in which the bench's promises are said: document 01, "Mapper and bench", and requests #102 and #103.
 use Prim.Native.Nat.{ℕ, _<_, _≤_}
 use mathlib.Core.Path.{_≡_}
 use mathlib.Core.Bool.{true}
 use mathlib.Core.List.{List, [], _∷_, _++_}
 use lib.ListN.{length, take, drop, getD}
 use Rattle.words.specs.Field.{sourceFunction}
-use Rattle.words.specs.Paper.{sourcePlace, accepted}
+use Rattle.words.specs.Paper.{sourcePlace, accepted, refused}
 use Rattle.recipe.specs.Fields.{sourceOf}
 use Rattle.sequence.specs.Limits.{mostSources}
 use Rattle.reader.specs.Starts.{bindingsStart}
@@ -54,7 +54,7 @@ functionOn b k = sourceFunction (getD (sourcesOn (b .tables)) k 0)
 abbrev pub entryOn : Bench → ℕ → ℕ
 entryOn b k = getD (b .bound) k nothing
 
--- "A bind adds just its own binding": in the entry of its source, where nothing was, and nothing else of the bench
+-- "A bind adds just its own binding": in the entry of its source, where nothing was, and nothing else of the bench but its count
 pub record Adds (b : Bench) (w : ℕ) (after : Bench) : Type 0 where
   pub entry : ℕ
   pub within : entry < b .tables .nsources
@@ -64,6 +64,7 @@ pub record Adds (b : Bench) (w : ℕ) (after : Bench) : Type 0 where
   pub others-same : (k : ℕ) → (k ≡ entry → ⊥) → entryOn after k ≡ entryOn b k
   pub entries-same : length (after .bound) ≡ length (b .bound)
   pub tables-same : after .tables ≡ b .tables
+  pub count : after .glue ≡ glueOn (after .tables) (after .bound)
 
 -- something is bound to a function: in the entry of a source that has it
 pub record BoundTo (b : Bench) (f : ℕ) : Type 0 where
@@ -72,17 +73,25 @@ pub record BoundTo (b : Bench) (f : ℕ) : Type 0 where
   pub its-source : functionOn b entry ≡ f
   pub not-empty : entryOn b entry ≡ nothing → ⊥
 
--- a release takes off just that binding: nothing is left in its entry, and nothing else of the bench changes
+-- a release takes off just that binding: nothing is left in its entry, and nothing else of the bench changes but its count
 pub record Removes (b : Bench) (f : ℕ) (after : Bench) : Type 0 where
   pub bound-to : BoundTo b f
   pub is-empty : entryOn after (bound-to .entry) ≡ nothing
   pub others-same : (k : ℕ) → (k ≡ bound-to .entry → ⊥) → entryOn after k ≡ entryOn b k
   pub entries-same : length (after .bound) ≡ length (b .bound)
   pub tables-same : after .tables ≡ b .tables
+  pub count : after .glue ≡ glueOn (after .tables) (after .bound)
+
+-- "20. Bench not sound; place 0. Before all others.": every call that takes the bench is refused so, whatever else is handed in
+pub record RefusesAll (b : Bench) : Type 0 where
+  pub binds : (w : ℕ) (r : After) → Binds b w r → paperOf (r .answer) ≡ refused 20 0
+  pub releases : (f : ℕ) → paperOf (releaseOf b f .answer) ≡ refused 20 0
+  pub prices : paperOf (priceOf b .answer) ≡ refused 20 0
+  pub finishes : (lent : List ℕ) → paperOf (finishOf b lent .answer) ≡ refused 20 0
 
 -- words read back to a bench's bindings and count
 pub record ReadsBack (b : Bench) (words : List ℕ) : Type 0 where
-  pub answer : reader.paperOf (mappingOf words) ≡ accepted (b .tables .width ∷ b .tables .nsources ∷ glueOn (b .tables) (b .bound) ∷ [])
+  pub answer : reader.paperOf (mappingOf words) ≡ accepted (b .tables .width ∷ b .tables .nsources ∷ b .glue ∷ [])
   pub bindings : take (b .tables .nsources) (drop bindingsStart words) ≡ bindingWords (bindingsOn b)
 
 -- "22. Finish: source unbound; place: lowest."

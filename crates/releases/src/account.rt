@@ -4,6 +4,7 @@ use accounts::sound::BENCH_WORDS;
 use accounts::sound::BOUND;
 use accounts::sound::TARGETS;
 use accounts::sound::WIDTH;
+use bench_calls::files::counted;
 use reference::answer::Answer;
 use reference::answer::DONE;
 use reference::answer::OF_WORD;
@@ -118,7 +119,7 @@ fn index_for(tables: &[u32; BENCH_WORDS], rule: u32) -> usize {
     wrapping_add_usize(BOUND, entry)
 }
 
-// The bench with these tables on which the list is bound.
+// The bench with these tables on which the list is bound, and its count.
 pub fn bench_of(tables: [u32; BENCH_WORDS], list: List) -> [u32; BENCH_WORDS] {
     let mut bench = tables;
     let rules = list.rules;
@@ -127,5 +128,5 @@ pub fn bench_of(tables: [u32; BENCH_WORDS], list: List) -> [u32; BENCH_WORDS] {
         put(&mut bench, index_for(&tables, rules[i]), rules[i]);
         i += 1;
     }
-    bench
+    counted(bench)
 }

@@ -3,6 +3,7 @@ use accounts::sound::BENCH_WORDS;
 use accounts::sound::BOUND;
 use accounts::sound::WIDTH;
 use bench_calls::calls;
+use bench_calls::files::counted;
 use bench_calls::files::same_bench;
 use bench_calls::files::whole_bench;
 use reference::answer::Answer;
@@ -41,7 +42,7 @@ fn with(all: Tally, bench: [u32; BENCH_WORDS], function: u32, is_bound: bool) ->
         );
     }
     let same = same_answer(answer, expected_answer(is_bound, function))
-        & same_bench(&next, &expected);
+        & same_bench(&next, &counted(expected));
     Tally {
         tried: more(all.tried, true),
         released: more(all.released, answer.form == DONE),
@@ -76,7 +77,7 @@ fn emptied(bench: [u32; BENCH_WORDS]) -> [u32; BENCH_WORDS] {
         empty[i] = 0;
         i += 1;
     }
-    empty
+    counted(empty)
 }
 
 pub fn report() {

@@ -2,6 +2,7 @@
 use accounts::sound::BENCH_WORDS;
 use bench_calls::calls;
 use bench_calls::files::bench_with;
+use bench_calls::files::counted;
 use bench_calls::files::same_bench;
 use bench_calls::lines;
 use testing::names::name_at;
@@ -58,7 +59,7 @@ fn show_release(name: &[u8], bench: [u32; BENCH_WORDS], function: u32, index: us
     say::count(b"    ", function as u64);
     say::text(b", ");
     lines::answer(name, answer);
-    say_outcome(same_bench(&next, &expected), index);
+    say_outcome(same_bench(&next, &counted(expected)), index);
 }
 
 fn show(name: &[u8], row: u64) {

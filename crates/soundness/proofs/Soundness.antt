@@ -7,7 +7,7 @@ use native.Mathlib.Omega.{arith}
 use lib.Bits.{bitOr}
 use lib.Dec.{eqb, ltb}
 use lib.ListN.{length, take, drop, getD, drop-of-length-le}
-use borrow.Author.Tests.{eq-eqb, ne-eqb, lt-ltb, le-ltb, le-leb, ltb-false, not-true, not-false}
+use borrow.Author.Tests.{eq-eqb, ne-eqb, eqb-true, lt-ltb, le-ltb, le-leb, ltb-false, not-true, not-false}
 use Rattle.words.specs.Choice.{if_then_else_}
 use Rattle.words.specs.Field.{kindOf, sourceFunction, wordOf}
 use Rattle.words.specs.Kinds.{HEADER, RULE}
@@ -27,7 +27,7 @@ use Rattle.reader.specs.declared.JobRead.{JobRead}
 use Rattle.reader.specs.declared.JobRead.the-variants.{Accepted}
 use Rattle.table.specs.Table.{hasTarget}
 use Rattle.claims.specs.Claim.{claimIn}
-use Rattle.soundness.specs.Sound.{sourcesOn, targetsOn, pricesWord, tableWords, holds, tablesSound, empty, ruleFault, bindable, entrySound, boundSound, isSound}
+use Rattle.soundness.specs.Sound.{sourcesOn, targetsOn, pricesWord, tableWords, holds, tablesSound, empty, ruleFault, bindable, entrySound, boundSound, glueOn, isSound}
 use Rattle.soundness.specs.declared.Tables.{Tables}
 use Rattle.soundness.specs.Shape.{TablesShaped}
 use Rattle.soundness.proofs.Shapes.{rest-of}
@@ -178,41 +178,44 @@ counted b =
       held = e;
     })))
 
-pub record Sound (b : Tables) (bound : List ℕ) : Type 0 where
+pub record Sound (b : Tables) (bound : List ℕ) (g : ℕ) : Type 0 where
   pub tables : Counted b
   pub past-sources : empty (drop (b .nsources) (b .sources)) ≡ true
   pub past-targets : empty (drop (b .ntargets) (b .targets)) ≡ true
   pub entries : boundSound (b .width) (sourcesOn b) (targetsOn b) (sourcesOn b) bound ≡ true
+  pub count : g ≡ glueOn b bound
 
-pub sound-holds : (b : Tables) (bound : List ℕ) → isSound b bound ≡ true → Sound b bound
+pub sound-holds : (b : Tables) (bound : List ℕ) (g : ℕ) → isSound b bound g ≡ true → Sound b bound g
 unfolding isSound
-sound-holds b bound =
-    let Q : Bool → Type 0 = λ x. x ≡ true → Sound b bound in
+sound-holds b bound g =
+    let Q : Bool → Type 0 = λ x. x ≡ true → Sound b bound g in
     either Q (not (tablesSound b)) (λ _ e. absurd (false≢true e))
     (λ p. either Q (not (empty (drop (b .nsources) (b .sources)))) (λ _ e. absurd (false≢true e))
     (λ q. either Q (not (empty (drop (b .ntargets) (b .targets)))) (λ _ e. absurd (false≢true e))
-    (λ r e. record {
+    (λ r. either Q (not (boundSound (b .width) (sourcesOn b) (targetsOn b) (sourcesOn b) bound)) (λ _ e. absurd (false≢true e))
+    (λ s e. record {
       tables = counted b (not-false (tablesSound b) p);
       past-sources = not-false (empty (drop (b .nsources) (b .sources))) q;
       past-targets = not-false (empty (drop (b .ntargets) (b .targets))) r;
-      entries = e;
-    })))
+      entries = not-false (boundSound (b .width) (sourcesOn b) (targetsOn b) (sourcesOn b) bound) s;
+      count = eqb-true g (glueOn b bound) e;
+    }))))
 
 -- and the other way
 is-width : (n : ℕ) → Width n → isWidth n ≡ true
 unfolding isWidth
 is-width n h = rw (le-ltb n 1 (h .least), le-leb n 64 (h .most)) refl
 
-pub sound-when : (b : Tables) (bound : List ℕ) → Sound b bound → isSound b bound ≡ true
+pub sound-when : (b : Tables) (bound : List ℕ) (g : ℕ) → Sound b bound g → isSound b bound g ≡ true
 unfolding isSound tablesSound
-sound-when b bound h =
+sound-when b bound g h =
     let t = h .tables in
     rw
     (is-width (b .width) (t .width), le-ltb mostSources (b .nsources) (t .few-sources), le-ltb mostTargets (b .ntargets) (t .few-targets))
-    (rw (t .held, h .past-sources, h .past-targets) (h .entries))
+    (rw (t .held, h .past-sources, h .past-targets, h .entries) (eq-eqb g (glueOn b bound) (h .count)))
 
-module _ (b : Tables) (bound : List ℕ) (p : Bool) (ep : p ≡ tablesSound b) where
-  pub unsound-tables : not p ≡ true → false ≡ isSound b bound
+module _ (b : Tables) (bound : List ℕ) (g : ℕ) (p : Bool) (ep : p ≡ tablesSound b) where
+  pub unsound-tables : not p ≡ true → false ≡ isSound b bound g
   unfolding isSound
   unsound-tables h = rw (sym ep ∙ not-true p h) refl
 
@@ -221,7 +224,7 @@ module _ (b : Tables) (bound : List ℕ) (p : Bool) (ep : p ≡ tablesSound b) w
     sources-end : q ≡ empty (drop (b .nsources) (b .sources))
     sources-end = eq ∙ ap empty (rest-of (b .sources) (b .nsources) mostSources (h .sources-entries))
 
-    pub source-past : not q ≡ true → false ≡ isSound b bound
+    pub source-past : not q ≡ true → false ≡ isSound b bound g
     unfolding isSound
     source-past u = rw (sym ep ∙ not-false p hp, sym sources-end ∙ not-true q u) refl
 
@@ -229,22 +232,31 @@ module _ (b : Tables) (bound : List ℕ) (p : Bool) (ep : p ≡ tablesSound b) w
       targets-end : r ≡ empty (drop (b .ntargets) (b .targets))
       targets-end = er ∙ ap empty (rest-of (b .targets) (b .ntargets) mostTargets (h .targets-entries))
 
-      pub target-past : not r ≡ true → false ≡ isSound b bound
+      pub target-past : not r ≡ true → false ≡ isSound b bound g
       unfolding isSound
       target-past u =
           rw (sym ep ∙ not-false p hp, sym sources-end ∙ not-false q hq, sym targets-end ∙ not-true r u) refl
 
-      pub by-entries : (x : Bool) → not r ≡ false → x ≡ boundSound (b .width) (sourcesOn b) (targetsOn b) (sourcesOn b) bound
-          → x ≡ isSound b bound
-      unfolding isSound
-      by-entries x u ex =
-          rw (sym ep ∙ not-false p hp, sym sources-end ∙ not-false q hq, sym targets-end ∙ not-false r u) ex
+      module _ (hr : not r ≡ false) (x : Bool) (ex : x ≡ boundSound (b .width) (sourcesOn b) (targetsOn b) (sourcesOn b) bound) where
+        pub unsound-entries : not x ≡ true → false ≡ isSound b bound g
+        unfolding isSound
+        unsound-entries u =
+            rw (sym ep ∙ not-false p hp, sym sources-end ∙ not-false q hq, sym targets-end ∙ not-false r hr, sym ex ∙ not-true x u) refl
+
+        pub by-count : (c : ℕ) → not x ≡ false → c ≡ glueOn b bound → eqb g c ≡ isSound b bound g
+        unfolding isSound
+        by-count c u ec =
+            rw (sym ep ∙ not-false p hp, sym sources-end ∙ not-false q hq, sym targets-end ∙ not-false r hr, sym ex ∙ not-false x u)
+            (ap (eqb g) ec)
 
 -- ---- what sound tables are asked for
 
 module _ (b : Tables) (p : Bool) (ep : p ≡ tablesSound b) (hp : not p ≡ false) where
+  pub tables-hold : tablesSound b ≡ true
+  tables-hold = sym ep ∙ not-false p hp
+
   tables-counted : Counted b
-  tables-counted = counted b (sym ep ∙ not-false p hp)
+  tables-counted = counted b tables-hold
 
   pub tables-width : Width (b .width)
   tables-width = tables-counted .width
@@ -255,15 +267,15 @@ module _ (b : Tables) (p : Bool) (ep : p ≡ tablesSound b) (hp : not p ≡ fals
   pub tables-targets : b .ntargets ≤ mostTargets
   tables-targets = tables-counted .few-targets
 
-pub sound-tables : (b : Tables) (bound : List ℕ) → isSound b bound ≡ true → tablesSound b ≡ true
+pub sound-tables : (b : Tables) (bound : List ℕ) (g : ℕ) → isSound b bound g ≡ true → tablesSound b ≡ true
 unfolding isSound
-sound-tables b bound =
+sound-tables b bound g =
     either (λ x. x ≡ true → tablesSound b ≡ true) (not (tablesSound b)) (λ _ e. absurd (false≢true e))
     (λ p _. not-false (tablesSound b) p)
 
-module _ (b : Tables) (bound : List ℕ) (s : isSound b bound ≡ true) where
+module _ (b : Tables) (bound : List ℕ) (g : ℕ) (s : isSound b bound g ≡ true) where
   pub sound-width : Width (b .width)
-  sound-width = sound-holds b bound s .tables .width
+  sound-width = sound-holds b bound g s .tables .width
 
   pub sound-sources : b .nsources ≤ mostSources
-  sound-sources = sound-holds b bound s .tables .few-sources
+  sound-sources = sound-holds b bound g s .tables .few-sources

@@ -1,5 +1,5 @@
--- Document 01, "Mapper and bench": when a bench is sound. A bench is a job's tables and, for each source in table order, an entry for what
--- is bound to it.
+-- Document 01, "Mapper and bench", and request #103: when a bench is sound. A bench is a job's tables, for each source in table order an
+-- entry for what is bound to it, and the count that it stores.
 use Prim.Native.Nat.{ℕ, _+_, _*_, _^_}
 use mathlib.Core.Bool.{Bool, true, false, not, _&&_}
 use mathlib.Core.List.{List, [], _∷_, _++_}
@@ -97,11 +97,12 @@ boundSound n sources targets (s ∷ ss) (w ∷ bound) =
 unfoldable pub glueOn : Tables → List ℕ → ℕ
 glueOn t bound = glue (t .width) (t .prices) (filled bound)
 
--- ---- both
+-- ---- all three; "A stored count other than the one document 01 defines makes the bench not sound."
 
-unfoldable pub isSound : Tables → List ℕ → Bool
-isSound t bound =
+unfoldable pub isSound : Tables → List ℕ → ℕ → Bool
+isSound t bound stored =
     if not (tablesSound t) then false
     else if not (empty (drop (t .nsources) (t .sources))) then false
     else if not (empty (drop (t .ntargets) (t .targets))) then false
-    else boundSound (t .width) (sourcesOn t) (targetsOn t) (sourcesOn t) bound
+    else if not (boundSound (t .width) (sourcesOn t) (targetsOn t) (sourcesOn t) bound) then false
+    else eqb stored (glueOn t bound)

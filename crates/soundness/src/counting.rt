@@ -4,7 +4,6 @@ use crate::Tables;
 use sequence::MOST_SOURCES;
 ghost use mathlib.Core.Path.{_≡_};
 ghost use mathlib.Core.Bool.{true};
-ghost use Prim.Native.Nat.{_<_, _^_};
 ghost use lib.Dec.{eqb};
 ghost use Rattle.words.specs.Choice.{if_then_else_};
 ghost use Rattle.usage.specs.Sets as U;
@@ -36,7 +35,7 @@ fn usage_of(bound: &[u32]) -> u64
 // The glue count of what is bound.
 pub fn glue_on(tables: Tables, bound: [u32; MOST_SOURCES]) -> u32
     requires { ⌜ S.tablesSound tables ≡ true ⌝ }
-    ensures { λ r. ⌜ (r ≡ S.glueOn tables bound) × (r < 2 ^ 28) ⌝ }
+    ensures { λ r. ⌜ r ≡ S.glueOn tables bound ⌝ }
 {
     let prices = tables.prices;
     tally::price(usage_of(&bound), tables.width, prices)

@@ -1,4 +1,5 @@
-// What a sound bench is: values in range, tables that a job could hold, and in each source's entry nothing or a right recipe of it.
+// What a sound bench is: values in range, tables that a job could hold, in each source's entry nothing or a right recipe of it, and a
+// stored count that is the glue count of what is bound.
 mod counting;
 mod reading;
 
@@ -92,8 +93,8 @@ fn bound_sound(n: u32, sources: &[u32], targets: &[u32], bound: &[u32]) -> bool
     is_empty(&bound[i..])
 }
 
-pub fn is_sound(tables: Tables, bound: [u32; MOST_SOURCES]) -> bool
-    ensures { λ r. ⌜ r ≡ S.isSound tables bound ⌝ }
+pub fn is_sound(tables: Tables, bound: [u32; MOST_SOURCES], glue: u32) -> bool
+    ensures { λ r. ⌜ r ≡ S.isSound tables bound glue ⌝ }
 {
     if !reading::tables_sound(tables) {
         return false;
@@ -108,10 +109,13 @@ pub fn is_sound(tables: Tables, bound: [u32; MOST_SOURCES]) -> bool
     if !is_empty(&targets[ntargets..]) {
         return false;
     }
-    bound_sound(
+    if !bound_sound(
         tables.width,
         &sources[..nsources],
         &targets[..ntargets],
         &bound,
-    )
+    ) {
+        return false;
+    }
+    glue == glue_on(tables, bound)
 }

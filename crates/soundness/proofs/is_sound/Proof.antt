@@ -1,7 +1,7 @@
 -- `soundness::is_sound` meets its contract.
 use borrow.Author.Needs.{needs}
 use Rattle.soundness.proofs.Shapes.{tables-shaped, sources-all, targets-all, sources-fit, sources-taken, targets-fit, targets-taken, sources-within}
-use Rattle.soundness.proofs.Soundness.{unsound-tables, tables-sources, tables-targets, tables-width, source-past, target-past, by-entries}
+use Rattle.soundness.proofs.Soundness.{unsound-tables, tables-sources, tables-targets, tables-width, tables-hold, source-past, target-past, unsound-entries, by-count}
 use Rattle.soundness.proofs.is_sound.Statement.{statement}
 use Rattle.soundness.proofs.is_sound.Tie as tie
 
@@ -72,7 +72,13 @@ bound-sound-requires : tie.Need-bound-sound-requires
 bound-sound-requires c κs = (search tables-width, search (tables-shaped, tables-sources, sources-within))
 
 returns-4 : tie.Need-returns-4
-returns-4 c = search (tables-shaped, by-entries)
+returns-4 c = search (tables-shaped, unsound-entries)
+
+glue-on-requires : tie.Need-glue-on-requires
+glue-on-requires c κs = search tables-hold
+
+returns-5 : tie.Need-returns-5
+returns-5 c = search (tables-shaped, by-count)
 
 pub is-sound-spec : {M : Type 1} → statement M
 is-sound-spec =
@@ -100,4 +106,6 @@ is-sound-spec =
     slice-aggregate-bound-sound-2
     slice-aggregate-bound-sound-3
     bound-sound-requires
-    returns-4)
+    returns-4
+    glue-on-requires
+    returns-5)

@@ -58,6 +58,12 @@ loop-less c = search needs
 loop-again : tie.Need-loop-again Inv-loop μ-loop
 loop-again c = search needs
 
+at-requires-5 : tie.Need-at-requires-5 Inv-loop μ-loop
+at-requires-5 c κs = search needs
+
+count-on-requires : tie.Need-count-on-requires Inv-loop μ-loop
+count-on-requires c κs = search needs
+
 returns-5 : tie.Need-returns-5 Inv-loop μ-loop
 returns-5 c = search needs
 
@@ -83,4 +89,6 @@ is-sound-spec =
     add-place
     loop-less
     loop-again
+    at-requires-5
+    count-on-requires
     returns-5)

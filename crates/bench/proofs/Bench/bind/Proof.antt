@@ -35,6 +35,9 @@ mul-self c = search needs
 element-write-self : tie.Need-element-write-self
 element-write-self c = search (shaped, checked-entry)
 
+glue-on-requires : tie.Need-glue-on-requires
+glue-on-requires c κs = search checked-tables
+
 returns-2 : tie.Need-returns-2
 returns-2 c = search bind-wrong
 
@@ -55,5 +58,6 @@ bind-spec =
     enum-told
     mul-self
     element-write-self
+    glue-on-requires
     returns-2
     returns-3)

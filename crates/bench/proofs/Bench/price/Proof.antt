@@ -1,7 +1,6 @@
 -- `bench::Bench::price` meets its contract.
 use borrow.Author.Needs.{needs}
-use Rattle.bench.proofs.Binds.{tables-sound}
-use Rattle.bench.proofs.Pricing.{price-refused, price-counted}
+use Rattle.bench.proofs.Pricing.{price-refused, price-stored}
 use Rattle.bench.proofs.Bench.price.Statement.{statement}
 use Rattle.bench.proofs.Bench.price.Tie as tie
 
@@ -11,11 +10,8 @@ is-sound-requires c κs = search needs
 returns : tie.Need-returns
 returns c = search price-refused
 
-glue-on-requires : tie.Need-glue-on-requires
-glue-on-requires c κs = search tables-sound
-
 returns-2 : tie.Need-returns-2
-returns-2 c = search price-counted
+returns-2 c = search price-stored
 
 pub price-spec : {M : Type 1} → statement M
-price-spec = tie.close (tie.spec is-sound-requires returns glue-on-requires returns-2)
+price-spec = tie.close (tie.spec is-sound-requires returns returns-2)

@@ -27,6 +27,9 @@ mul-self c = search needs
 element-write-self : tie.Need-element-write-self
 element-write-self c = search (shaped, released-entry)
 
+glue-on-requires : tie.Need-glue-on-requires
+glue-on-requires c κs = search tables-sound
+
 returns-3 : tie.Need-returns-3
 returns-3 c = search release-done
 
@@ -41,4 +44,5 @@ release-spec =
     entry-for-requires
     mul-self
     element-write-self
+    glue-on-requires
     returns-3)

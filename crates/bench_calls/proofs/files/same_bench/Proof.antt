@@ -5,10 +5,10 @@ use Rattle.bench_calls.proofs.files.same_bench.Statement.{statement}
 use Rattle.bench_calls.proofs.files.same_bench.Tie as tie
 
 abbrev Inv-loop : tie.InvT-loop
-Inv-loop one other i₀ i = i ≤ 87
+Inv-loop one other i₀ i = i ≤ 88
 
 abbrev μ-loop : tie.MeasureT-loop
-μ-loop one other i₀ i = 87 - i
+μ-loop one other i₀ i = 88 - i
 
 loop-holds : tie.Need-loop-holds Inv-loop μ-loop
 loop-holds c = search needs

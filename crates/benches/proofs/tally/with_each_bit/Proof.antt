@@ -5,10 +5,10 @@ use Rattle.benches.proofs.tally.with_each_bit.Statement.{statement}
 use Rattle.benches.proofs.tally.with_each_bit.Tie as tie
 
 abbrev Inv-loop : tie.InvT-loop
-Inv-loop bench all₀ i₀ all i = i ≤ 2712
+Inv-loop anew bench all₀ i₀ all i = i ≤ 2744
 
 abbrev μ-loop : tie.MeasureT-loop
-μ-loop bench all₀ i₀ all i = 2712 - i
+μ-loop anew bench all₀ i₀ all i = 2744 - i
 
 empty-requires : tie.Need-empty-requires Inv-loop μ-loop
 empty-requires c κs = search needs
@@ -18,6 +18,9 @@ loop-holds c = search needs
 
 turned-requires : tie.Need-turned-requires Inv-loop μ-loop
 turned-requires c κs = search needs
+
+as-counted-requires : tie.Need-as-counted-requires Inv-loop μ-loop
+as-counted-requires c κs = search needs
 
 with-requires : tie.Need-with-requires Inv-loop μ-loop
 with-requires c κs = search needs
@@ -43,6 +46,7 @@ with-each-bit-spec =
     empty-requires
     loop-holds
     turned-requires
+    as-counted-requires
     with-requires
     add-i
     loop-less

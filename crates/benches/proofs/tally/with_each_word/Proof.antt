@@ -5,10 +5,10 @@ use Rattle.benches.proofs.tally.with_each_word.Statement.{statement}
 use Rattle.benches.proofs.tally.with_each_word.Tie as tie
 
 abbrev Inv-loop : tie.InvT-loop
-Inv-loop bench all₀ i₀ all i = i ≤ 1701
+Inv-loop anew bench all₀ i₀ all i = i ≤ 1701
 
 abbrev μ-loop : tie.MeasureT-loop
-μ-loop bench all₀ i₀ all i = 1701 - i
+μ-loop anew bench all₀ i₀ all i = 1701 - i
 
 empty-requires : tie.Need-empty-requires Inv-loop μ-loop
 empty-requires c κs = search needs
@@ -24,6 +24,9 @@ mul-words c = search needs
 
 array-write-words : tie.Need-array-write-words Inv-loop μ-loop
 array-write-words c = search needs
+
+as-counted-requires : tie.Need-as-counted-requires Inv-loop μ-loop
+as-counted-requires c κs = search needs
 
 with-requires : tie.Need-with-requires Inv-loop μ-loop
 with-requires c κs = search needs
@@ -51,6 +54,7 @@ with-each-word-spec =
     printed-word-requires
     mul-words
     array-write-words
+    as-counted-requires
     with-requires
     add-i
     loop-less

@@ -7,7 +7,7 @@ use Rattle.releases.proofs.account.bench_of.Statement.{statement}
 use Rattle.releases.proofs.account.bench_of.Tie as tie
 
 abbrev Inv-loop : tie.InvT-loop
-Inv-loop tables bench₀ rules i₀ bench i = (i ≤ 27) × (length bench ≡ 87)
+Inv-loop tables bench₀ rules i₀ bench i = (i ≤ 27) × (length bench ≡ 88)
 
 abbrev μ-loop : tie.MeasureT-loop
 μ-loop tables bench₀ rules i₀ bench i = 27 - i
@@ -45,6 +45,9 @@ loop-less c = search needs
 loop-again : tie.Need-loop-again Inv-loop μ-loop
 loop-again c = search needs
 
+counted-requires : tie.Need-counted-requires Inv-loop μ-loop
+counted-requires c κs = search needs
+
 returns : tie.Need-returns Inv-loop μ-loop
 returns c = search needs
 
@@ -65,4 +68,5 @@ bench-of-spec =
     add-i
     loop-less
     loop-again
+    counted-requires
     returns)

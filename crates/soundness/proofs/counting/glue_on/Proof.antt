@@ -14,7 +14,7 @@ price-requires : tie.Need-price-requires
 price-requires c κs = search counted-width
 
 returns : tie.Need-returns
-returns c = (search set-counted, search needs)
+returns c = search set-counted
 
 pub glue-on-spec : {M : Type 1} → statement M
 glue-on-spec =
