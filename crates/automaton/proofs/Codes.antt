@@ -1,14 +1,20 @@
--- The tables of one place, as the code looks them up.
+-- The codes of one place, as the code takes them.
 use mathlib.Core.Path.{_≡_, refl, sym}
 use mathlib.Core.Bool.{Bool, true, false, not, Bool·beq, false≢true}
 use mathlib.Core.List.{[], _∷_}
-use Prim.Native.Nat.{ℕ, _≤_, _/_, _%_}
+use Prim.Native.Nat.{ℕ, _≤_, _<_, _/_, _%_}
 use native.Mathlib.Nat.{div-one}
+use native.Mathlib.Omega.{arith}
 use lib.Dec.{eqb}
-use lib.ListN.{List·getD-eq-default}
+use lib.ListN.{getD, List·getD-eq-default}
 use Rattle.bits.specs.Bits.{bit}
 use Rattle.bits.specs.Vector.{minterm}
+use Rattle.bits.proofs.Wirings.{bit-of-pair}
 use Rattle.automaton.specs.Place.{wire}
+
+pub wire-by-low-bit : (code : ℕ) (x y : Bool) → code < 6
+    → not (Bool·beq (getD (false ∷ x ∷ y ∷ []) (code / 2) false) (eqb (code % 2) 1)) ≡ wire code x y
+wire-by-low-bit code x y h = bit-of-pair (false ∷ x ∷ y ∷ []) code (omega arith)
 
 pub wire-past : (code : ℕ) (x y : Bool) → 6 ≤ code → false ≡ wire code x y
 wire-past code x y h = sym (List·getD-eq-default (false ∷ true ∷ x ∷ not x ∷ y ∷ not y ∷ []) false h)

@@ -7,15 +7,15 @@ ghost use Rattle.words.specs.Choice.{if_then_else_};
 ghost use Rattle.bits.specs.Vector as F;
 ghost use Rattle.automaton.specs.Place as P;
 
-// A wiring code on one bit of each operand.
+// A wiring code on one bit of each operand. The rest of the code chooses the bit, its low bit complements it.
 pub fn wire(code: u32, x: bool, y: bool) -> bool
     ensures { λ r. ⌜ r ≡ P.wire code x y ⌝ }
 {
     if 6 <= code {
         return false;
     }
-    let bits = [false, true, x, !x, y, !y];
-    bits[code as usize]
+    let bits = [false, x, y];
+    bits[(code / 2) as usize] ^ (code % 2 == 1)
 }
 
 // The carry out of a full adder.

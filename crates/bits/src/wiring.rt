@@ -1,6 +1,6 @@
 // Words of n bits, and what wiring and carry codes give of them.
 ghost use mathlib.Core.Path.{_≡_};
-ghost use Prim.Native.Nat.{_-_, _^_, _<_};
+ghost use Prim.Native.Nat.{_-_, _*_, _^_, _<_};
 ghost use Rattle.bits.specs.Bits as B;
 ghost use Rattle.bits.specs.Wiring as W;
 ghost use Rattle.bits.specs.Asked as Q;
@@ -21,7 +21,15 @@ pub fn complement(n: u32, word: u64) -> u64
     ones(n) - word
 }
 
-// The word that a wiring code gives of two words.
+// n ones for the bit 1, n zeros for the bit 0: 0 less the bit, cut to the width.
+fn mask(n: u32, bit: u64) -> u64
+    requires { ⌜ Q.Width n × (bit < 2) ⌝ }
+    ensures { λ r. ⌜ r ≡ bit * (2 ^ n - 1) ⌝ }
+{
+    std::num::wrapping_sub_u64(0, bit) & ones(n)
+}
+
+// The word that a wiring code gives of two words. The rest of the code chooses the word, its low bit complements it.
 pub fn wired(n: u32, code: u32, left: u64, right: u64) -> u64
     requires { ⌜ Q.Operands n left right ⌝ }
     ensures { λ r. ⌜ (r ≡ W.wired n code left right) × (r < 2 ^ n) ⌝ }
@@ -29,26 +37,19 @@ pub fn wired(n: u32, code: u32, left: u64, right: u64) -> u64
     if 6 <= code {
         return 0;
     }
-    let words = [
-        0,
-        ones(n),
-        left,
-        complement(n, left),
-        right,
-        complement(n, right),
-    ];
-    words[code as usize]
+    let words = [0, left, right];
+    words[(code / 2) as usize] ^ mask(n, (code % 2) as u64)
 }
 
-// The bit that a carry code gives of a carry.
+// The bit that a carry code gives of a carry, in the same way.
 pub fn carried(code: u32, carry: bool) -> bool
     ensures { λ r. ⌜ r ≡ W.carried code carry ⌝ }
 {
     if 4 <= code {
         return false;
     }
-    let bits = [false, true, carry, !carry];
-    bits[code as usize]
+    let bits = [false, carry];
+    bits[(code / 2) as usize] ^ (code % 2 == 1)
 }
 
 // The top bit of a word of n bits.

@@ -41,7 +41,7 @@ fn shown_word(n: u32, code: u32, word: u64) -> u64
 pub fn exor(x: bool, y: bool) -> bool
     ensures { λ r. ⌜ r ≡ W.exor x y ⌝ }
 {
-    if x { !y } else { y }
+    x ^ y
 }
 
 // A comparison code on TO1, GOR and GAND of TO0, S and TOVF.
