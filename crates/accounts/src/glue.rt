@@ -5,7 +5,7 @@ use testing::tally::more;
 use testing::words::at;
 
 // The width and the prices of an inverter, a gate and a multiplexer.
-#[derive(Drop)]
+#[derive(Clone, Copy)]
 pub struct Costs {
     pub n: u64,
     pub inverter: u64,

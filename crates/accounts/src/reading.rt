@@ -7,7 +7,7 @@ use testing::words::{at, content, kind};
 
 // The number of the first refusal, 1 to 6, and its place; or 0, 0 and the facts that the words hold: the width, the three prices and
 // the numbers of sources, targets and rules, and 1 where the book is asked for; or the width, the number of bindings and the glue count.
-#[derive(Drop)]
+#[derive(Clone, Copy)]
 pub struct Reading {
     pub number: u32,
     pub place: usize,

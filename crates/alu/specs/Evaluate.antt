@@ -1,7 +1,6 @@
 -- Document 01, "Functions": "The evaluator is given function, width, left, right and carry, in that order. It refuses with 3 at
 -- the first (place 0 to 4) out of range: an operand must be below 2^n, a carry at most 1."
-use Rattle.std.specs.Prelude.{ℕ, ◌^◌, not, [], ◌∷◌, leb, ltb, eqb}
-use Rattle.words.specs.Choice.{if◌then◌else◌}
+use Rattle.std.specs.Prelude.{ℕ, ◌^◌, not, [], ◌∷◌, leb, ltb, eqb, if◌then◌else◌}
 use Rattle.words.specs.Paper.{Paper, refusal, accepted, told}
 use Rattle.bits.specs.Bits.{num}
 use Rattle.alu.specs.Function.{function_of, ports}

@@ -1,6 +1,5 @@
 -- Which numbers are functions and which are widths: document 01, "Functions".
-use Rattle.std.specs.Prelude.{ℕ, Bool, false, leb, ltb}
-use Rattle.words.specs.Choice.{if◌then◌else◌}
+use Rattle.std.specs.Prelude.{ℕ, Bool, false, leb, ltb, if◌then◌else◌}
 
 -- the functions are numbered from 1 to 27
 abbrev pub last_function : ℕ

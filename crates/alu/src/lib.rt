@@ -1,4 +1,6 @@
 // The ALU functions of document 01, "Functions (Tables 1 to 4)": their ports at a width from 1 to 64, and the evaluator.
+#![tactic(auto)]
+
 ghost use Rattle.std.specs.Prelude.{◌≡◌};
 ghost use Rattle.alu.specs.Function as F;
 ghost use Rattle.alu.specs.Range as R;
@@ -20,7 +22,7 @@ pub const WIDEST: u32 = 64;
 pub const NO_FUNCTION: u32 = 0;
 
 // Some of the four ports.
-#[derive(Drop)]
+#[derive(Clone, Copy)]
 pub struct PortSet {
     pub o0: bool,
     pub ocout: bool,
@@ -30,7 +32,7 @@ pub struct PortSet {
 
 // The three kinds of function. An arithmetic one adds the words that two wiring codes and the bit that a carry code choose of its
 // inputs; a logic one has its vector; a comparison has what it shows for less, equal and greater.
-#[derive(Drop)]
+#[derive(Clone, Copy)]
 pub enum Kind {
     Arithmetic {
         left: u32,
@@ -46,7 +48,7 @@ pub enum Kind {
 }
 
 // The evaluator's answer: the ports, or refusal 3 with the place, 0 to 4, of the first value out of range.
-#[derive(Drop)]
+#[derive(Clone, Copy)]
 pub enum Evaluation {
     Shown(Ports),
     Refused(Refusal),

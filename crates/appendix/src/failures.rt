@@ -39,26 +39,27 @@ fn least(word: u32, n: u32) -> Operands
 const PORTS: [u8; 15] = *b"O0|OCOUT|OVF|O1";
 
 // Writes out a record's word, as docs/BOOK.md has it, and where it fails.
-fn say_place(word: u32, n: u32, at: Operands, port: u32) {
+fn say_place(rt: &HostRuntime, word: u32, n: u32, at: Operands, port: u32) {
     let mut digits = [b' '; 10];
     text::put_digits(word as u64, 16, 8, &mut digits, 1);
-    say::text(&digits);
+    say::text(rt, &digits);
     say::line(
+        rt,
         b"width # left # right # carry # port ",
         &[n as u64, at.left, at.right, at.carry as u64],
     );
-    say::text(name_at(&PORTS, port as usize));
+    say::text(rt, name_at(&PORTS, port as usize));
 }
 
 // Writes out what the source and the recipe show at a port.
-fn say_shown(form: &[u8], both: Both, port: u32) {
+fn say_shown(rt: &HostRuntime, form: &[u8], both: Both, port: u32) {
     let source = both.source;
     let recipe = both.recipe;
-    say::line(form, &[at_port(source, port), at_port(recipe, port)]);
+    say::line(rt, form, &[at_port(source, port), at_port(recipe, port)]);
 }
 
 // Ends the line of a record at a width. It counts as differing unless both accounts show the same and the judge answers the number.
-fn with_failure(tally: Tally, word: u32, n: u32, number: u32) -> Tally
+fn with_failure(rt: &HostRuntime, tally: Tally, word: u32, n: u32, number: u32) -> Tally
     requires { (1 ≤ n) × (n ≤ 8) }
 {
     let at = least(word, n);
@@ -66,25 +67,25 @@ fn with_failure(tally: Tally, word: u32, n: u32, number: u32) -> Tally
     let told = by_library(word, n, at);
     let second = by_reference(word, n, at);
     let answer = judged(word, n);
-    say_place(word, n, at, port);
-    say_shown(b": source shows #, recipe shows #", told, port);
-    say_shown(b"; by the reference #, #", second, port);
-    say::line(b"; judge: refusal #\n", &[answer as u64]);
+    say_place(rt, word, n, at, port);
+    say_shown(rt, b": source shows #, recipe shows #", told, port);
+    say_shown(rt, b"; by the reference #, #", second, port);
+    say::line(rt, b"; judge: refusal #\n", &[answer as u64]);
     testing::tally::counted(tally, (port < 4) & alike(told, second) & (answer == number))
 }
 
 // Each record at width 1, which is the least, and at width 8. The judge has to answer the number: 10 for wrong, or a refusal's.
-pub fn report_failures(name: &[u8], names: &[u8], words: &[u32], number: u32) {
+pub fn report_failures(rt: &HostRuntime, name: &[u8], names: &[u8], words: &[u32], number: u32) {
     let mut tally = testing::tally::none();
     let mut i = 0;
     while i < words.len() {
-        say::text(name_at(names, i));
-        let one = with_failure(tally, words[i], 1, number);
-        say::text(name_at(names, i));
-        let eight = with_failure(one, words[i], 8, number);
+        say::text(rt, name_at(names, i));
+        let one = with_failure(rt, tally, words[i], 1, number);
+        say::text(rt, name_at(names, i));
+        let eight = with_failure(rt, one, words[i], 8, number);
         tally = eight;
         i += 1;
     }
-    say::text(name);
-    say::report(b", at widths 1 and 8", tally);
+    say::text(rt, name);
+    say::report(rt, b", at widths 1 and 8", tally);
 }

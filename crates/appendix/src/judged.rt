@@ -45,7 +45,7 @@ fn judged_everywhere(tally: Tally, word: u32, number: u32) -> Tally {
 }
 
 // Words that have to be judged with one number at every width.
-pub fn report_judged(name: &[u8], words: &[u32], number: u32) {
+pub fn report_judged(rt: &HostRuntime, name: &[u8], words: &[u32], number: u32) {
     let mut tally = testing::tally::none();
     let mut i = 0;
     while i < words.len() {
@@ -53,6 +53,6 @@ pub fn report_judged(name: &[u8], words: &[u32], number: u32) {
         tally = next;
         i += 1;
     }
-    say::text(name);
-    say::report(b" at each width from 1 to 64", tally);
+    say::text(rt, name);
+    say::report(rt, b" at each width from 1 to 64", tally);
 }

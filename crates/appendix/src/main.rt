@@ -1,5 +1,7 @@
 // Judges the report's appendix A again: the records that are wrong or refused, at the least operands where they fail, and the book. The
 // lines are the figures of docs/BOOK.md. The program is a test, so its contracts say only what safety needs.
+#![tactic(auto)]
+
 mod failures;
 mod judged;
 mod shown;
@@ -57,11 +59,11 @@ const WRONG: [u32; 36] = [
 // Two more leave out ports that their source drives.
 const REFUSED: [u32; 2] = [0x5211_0100, 0x5295_0100];
 
-fn main() {
-    report_failures(b"wrong records", &WRONG_NAMES, &WRONG, 10);
-    report_failures(b"refused records", b"II|DD", &REFUSED, 6);
-    report_judged(b"wrong records judged wrong", &WRONG, 10);
-    report_judged(b"refused records refused with 6", &REFUSED, 6);
-    report_judged(b"rules of the book judged right", &book::BOOK, 0);
-    report_tried();
+fn main(rt: HostRuntime) {
+    report_failures(&rt, b"wrong records", &WRONG_NAMES, &WRONG, 10);
+    report_failures(&rt, b"refused records", b"II|DD", &REFUSED, 6);
+    report_judged(&rt, b"wrong records judged wrong", &WRONG, 10);
+    report_judged(&rt, b"refused records refused with 6", &REFUSED, 6);
+    report_judged(&rt, b"rules of the book judged right", &book::BOOK, 0);
+    report_tried(&rt);
 }

@@ -7,7 +7,7 @@ use reference::places::number;
 use reference::recipe::{fields_of, recipe_shows};
 use reference::trial::Operands;
 
-#[derive(Drop)]
+#[derive(Clone, Copy)]
 pub struct Both {
     pub source: Shown,
     pub recipe: Shown,

@@ -42,7 +42,7 @@ fn with_rule(tally: Tally, word: u32, n: u32) -> Tally {
 }
 
 // All rules at a width.
-fn report_width(words: &[u32], n: u32) {
+fn report_width(rt: &HostRuntime, words: &[u32], n: u32) {
     let mut tally = testing::tally::none();
     let mut i = 0;
     while i < words.len() {
@@ -50,14 +50,14 @@ fn report_width(words: &[u32], n: u32) {
         tally = after;
         i += 1;
     }
-    say::count(b"rules of the book by the reference, width ", n as u64);
-    say::report(b"", tally);
+    say::count(rt, b"rules of the book by the reference, width ", n as u64);
+    say::report(rt, b"", tally);
 }
 
-pub fn report_tried() {
+pub fn report_tried(rt: &HostRuntime) {
     let mut k = 0;
     while k < 11 {
-        report_width(&book::BOOK, WIDTHS[k]);
+        report_width(rt, &book::BOOK, WIDTHS[k]);
         k += 1;
     }
 }

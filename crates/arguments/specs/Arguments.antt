@@ -1,6 +1,5 @@
 -- What the programs' arguments mean.
-use Rattle.std.specs.Prelude.{ℕ, ◌+◌, ◌-◌, ◌*◌, Bool, List, [], ◌∷◌, leb}
-use Rattle.words.specs.Choice.{if◌then◌else◌}
+use Rattle.std.specs.Prelude.{ℕ, ◌+◌, ◌-◌, ◌*◌, Bool, List, [], ◌∷◌, leb, if◌then◌else◌}
 use Rattle.alu.specs.Range.{is_width}
 use Rattle.text.specs.Text.{bytes, same}
 use Rattle.arguments.specs.declared.Widths.{Widths}

@@ -1,11 +1,47 @@
 // What the programs' arguments mean.
-ghost use Rattle.std.specs.Prelude.{◌≡◌};
+#![tactic(auto)]
+
+ghost use Rattle.std.specs.Prelude.{◌≡◌, ◌≤◌, length};
 ghost use Rattle.arguments.specs.Arguments as W;
 
-use libc::STDERR_FILENO;
+use std::env::FillError;
+use std::rt::Env;
+
+// More bytes than the path of a file has.
+pub const MOST_BYTES: usize = 4096;
+
+// Puts an argument at the start of a buffer and answers its length, or 0 if there is no such argument or it is longer.
+pub fn put_argument(rt: &HostRuntime, index: usize, out: &mut [u8]) -> usize
+    ensures { result ≤ length out.new }
+{
+    match rt.arg(index, out) {
+        Ok(bytes) => bytes,
+        Err(_) => 0,
+    }
+}
+
+// Whether a program was called with an argument of this index.
+fn has_argument(rt: &HostRuntime, index: usize) -> bool {
+    let mut none = [0u8; 1];
+    match rt.arg(index, &mut none) {
+        Ok(_) => true,
+        Err(FillError::TooLong) => true,
+        Err(FillError::NotPresent) => false,
+    }
+}
+
+// How many arguments a program was called with, its own name among them.
+pub fn count(rt: &HostRuntime) -> usize {
+    for index in 0..usize::MAX {
+        if !has_argument(rt, index) {
+            return index;
+        }
+    }
+    usize::MAX
+}
 
 // judge_rule's WIDTH: one width, every width, or neither.
-#[derive(Drop)]
+#[derive(Clone, Copy)]
 pub enum Widths {
     At(u32),
     All,
@@ -19,18 +55,18 @@ fn is_help(argument: &[u8]) -> bool
 }
 
 // Whether the first argument asks for help.
-pub fn asks_help() -> bool {
-    if os::arg_count() < 2 {
+pub fn asks_help(rt: &HostRuntime) -> bool {
+    if count(rt) < 2 {
         return false;
     }
-    let mut argument = io::buffer();
-    let length = os::arg(1, &mut argument);
+    let mut argument = [0u8; MOST_BYTES];
+    let length = put_argument(rt, 1, &mut argument);
     is_help(&argument[..length])
 }
 
 // Says on standard error how a program is called.
-pub fn usage(text: &[u8]) {
-    io::write_all(STDERR_FILENO, text);
+pub fn usage(rt: &HostRuntime, text: &[u8]) {
+    let _ = rt.stderr().write_all(text);
 }
 
 // The value of a decimal digit; 10 for another byte.

@@ -7,7 +7,7 @@ use mathlib.Core.Bool.{Bool, true, false, ◌||◌}
 use lib.Dec.{leb, ltb}
 use lib.Pow.{low}
 use borrow.Author.Tests.{lt-ltb, le-ltb}
-use Rattle.words.specs.Choice.{if◌then◌else◌}
+use Rattle.std.specs.Prelude.{if◌then◌else◌}
 use Rattle.bits.specs.Bits.{num, exor, word}
 use Rattle.bits.specs.Wiring.{wired, carried}
 use Rattle.bits.specs.Sum.{overflows, sum}

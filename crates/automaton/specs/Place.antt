@@ -1,7 +1,6 @@
 -- One place of a function: what its bits do there, from what the lower places leave.
 -- Nothing here has to be believed: the proofs show that runs of it give the ports of alu's Function.antt.
-use Rattle.std.specs.Prelude.{ℕ, Bool, true, false, not, ◌&&◌, ◌||◌, [], ◌∷◌, get_or}
-use Rattle.words.specs.Choice.{if◌then◌else◌}
+use Rattle.std.specs.Prelude.{ℕ, Bool, true, false, not, ◌&&◌, ◌||◌, [], ◌∷◌, get_or, if◌then◌else◌}
 use Rattle.bits.specs.Bits.{exor}
 use Rattle.bits.specs.Wiring.{carried}
 use Rattle.bits.specs.Vector.{minterm}

@@ -1,5 +1,7 @@
 // The machine that compares a source side and a recipe, place by place from the lowest: what the lower places leave behind, whether
 // O0 agrees at a place, and whether every port agrees at the top place.
+#![tactic(auto)]
+
 mod place;
 mod side;
 
@@ -11,14 +13,14 @@ use output::Outputs;
 pub use place::same_bit;
 
 // What ripples from place to place of one side: in lo a sum's carry, or that the left word is less so far; in hi that it is greater.
-#[derive(Drop)]
+#[derive(Clone, Copy)]
 pub struct Ripple {
     pub lo: bool,
     pub hi: bool,
 }
 
 // What the lower places of both sides leave behind, and whether any or all bits of the target's O0 are 1 there.
-#[derive(Drop)]
+#[derive(Clone, Copy)]
 pub struct State {
     pub source: Ripple,
     pub target: Ripple,
@@ -27,7 +29,7 @@ pub struct State {
 }
 
 // What a side does at one place: what ripples on, the bit of O0, and OCOUT, OVF and O1 if it is the top place.
-#[derive(Drop)]
+#[derive(Clone, Copy)]
 pub struct Cell {
     pub ripple: Ripple,
     pub bit: bool,

@@ -1,7 +1,6 @@
 // One place of a function of a kind: its bits there, and what ripples on.
-ghost use Rattle.std.specs.Prelude.{◌≡◌};
+ghost use Rattle.std.specs.Prelude.{◌≡◌, if◌then◌else◌};
 ghost use Rattle.std.specs.Bool.{beq};
-ghost use Rattle.words.specs.Choice.{if◌then◌else◌};
 ghost use Rattle.bits.specs.Vector as F;
 ghost use Rattle.automaton.specs.Place as P;
 

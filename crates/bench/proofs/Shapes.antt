@@ -1,8 +1,8 @@
 -- What the types of a bench's fields say of any bench.
-use mathlib.Core.Path.{◌≡◌, sym, ◌∙◌}
+use mathlib.Core.Path.{◌≡◌}
 use mathlib.Core.List.{List}
 use Prim.Native.Nat.{◌≤◌}
-use lib.ListN.{length, length-map}
+use lib.ListN.{length}
 use mir.Val.{Val}
 use denote.Laws.{Is}
 use denote.Struct.Declared.{row}
@@ -17,7 +17,7 @@ pub shaped : (b : Bench) (vs : List Val) → Is (row the_type) b vs → Shaped b
 shaped b vs g =
     record {
       tables_shaped = tables.tables_shaped b.tables _ g.1.1.0;
-      bound_entries = sym (length-map b.bound _) ∙ g.1.1.1.0.1.0.1;
+      bound_entries = g.1.1.1.0.1.0.1;
     }
 
 -- ---- so many sources are there

@@ -1,7 +1,6 @@
 -- Document 01, "Mapper and bench" and "Refusals that come from the state", and requests #102 and #103: what each call answers, and the
 -- bench afterwards.
-use Rattle.std.specs.Prelude.{ℕ, ◌≡◌, Bool, not, List, [], ◌∷◌, eqb, set, replicate}
-use Rattle.words.specs.Choice.{if◌then◌else◌}
+use Rattle.std.specs.Prelude.{ℕ, ◌≡◌, Bool, not, List, [], ◌∷◌, eqb, set, replicate, if◌then◌else◌}
 use Rattle.words.specs.Paper.{Paper, refusal, no_refusal, source_place, accepted, told}
 use Rattle.alu.specs.Function.{no_function}
 use Rattle.recipe.specs.Fields.{source_of}

@@ -1,5 +1,7 @@
 // The bench: a mapping put together by hand. Document 01, "Mapper and bench" and "Refusals that come from the state". A bench
 // passes through each call by value and the next bench comes back, with the answer.
+#![tactic(auto)]
+
 mod faults;
 
 ghost use Rattle.std.specs.Prelude.{◌≡◌, true};
@@ -14,7 +16,7 @@ use words::{Refusal, Witness};
 use writer::Written;
 
 // A job's tables, an entry for each source, in table order, for what is bound to it, and the glue count of what is bound.
-#[derive(Drop)]
+#[derive(Clone, Copy)]
 pub struct Bench {
     pub tables: Tables,
     pub bound: [u32; MOST_SOURCES],
@@ -23,7 +25,7 @@ pub struct Bench {
 
 // What a call answers: a job opened, a rule bound or a binding taken off; a price; how many words were written; a refusal; or refusal 10
 // with its values.
-#[derive(Drop)]
+#[derive(Clone, Copy)]
 pub enum Answer {
     Done,
     Count(u32),
@@ -33,7 +35,7 @@ pub enum Answer {
 }
 
 // The bench after a call, and the answer.
-#[derive(Drop)]
+#[derive(Clone, Copy)]
 pub struct After {
     pub bench: Bench,
     pub answer: Answer,

@@ -1,6 +1,5 @@
 -- What work_bench says of its job's file and of each command: OPENED, BOUND, RELEASED, map_job's lines, GLUE and the count, or the refusal.
-use Rattle.std.specs.Prelude.{ℕ, ◌≡◌, Bool, true, false, List, [], ◌∷◌, ◌++◌, eqb, take}
-use Rattle.words.specs.Choice.{if◌then◌else◌}
+use Rattle.std.specs.Prelude.{ℕ, ◌≡◌, Bool, true, false, List, [], ◌∷◌, ◌++◌, eqb, take, if◌then◌else◌}
 use Rattle.words.specs.Field.{source_function}
 use Rattle.words.specs.Paper.{refusal}
 use Rattle.text.specs.Text.{Puts, bytes, name_of}

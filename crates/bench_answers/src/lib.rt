@@ -1,4 +1,6 @@
 // What work_bench says: the answer to its job's file and to each command, all lines of it, put into lent bytes.
+#![tactic(auto)]
+
 ghost use Rattle.std.specs.Prelude.{◌≡◌, ◌+◌, ◌≤◌, length};
 ghost use Rattle.text.specs.Text as P;
 ghost use Rattle.listing.specs.Listing as L;
@@ -17,7 +19,7 @@ pub const MOST_TEXT_BYTES: usize = listing::MOST_BINDING_BYTES * sequence::MOST_
     + lines::MOST_LINE_BYTES;
 
 // The bench of a job's file, whether it was opened, and how many bytes of text were put.
-#[derive(Drop)]
+#[derive(Clone, Copy)]
 pub struct Opened {
     pub bench: Bench,
     pub opened: bool,
@@ -25,7 +27,7 @@ pub struct Opened {
 }
 
 // The bench after a command, how many bytes of text were put, and how many words of a mapping were written.
-#[derive(Drop)]
+#[derive(Clone, Copy)]
 pub struct Worked {
     pub bench: Bench,
     pub bytes: usize,
@@ -33,7 +35,7 @@ pub struct Worked {
 }
 
 // How many bytes of text an answer has, how many words of a mapping it wrote, and whether a call was done.
-#[derive(Drop)]
+#[derive(Clone, Copy)]
 struct Answered {
     bytes: usize,
     words: usize,

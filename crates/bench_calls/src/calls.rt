@@ -100,7 +100,7 @@ fn of_answer(answer: bench::Answer, rule: u32, n: u32) -> Answer {
 
 // What a call answers, the bench that comes back, and the words lent to it: whether all are untouched, and whether the printed mapping
 // stands in them and nothing past it.
-#[derive(Drop)]
+#[derive(Clone, Copy)]
 pub struct Told {
     pub answer: Answer,
     pub bench: [u32; BENCH_WORDS],

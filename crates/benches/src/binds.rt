@@ -62,13 +62,17 @@ const NAMES: [u8; 512] = *b"no kind|a binding|a source|bit 4|right wiring 7|main
     |the printed LT bound, LT again|the printed LT bound, RSUB as ADD";
 
 // What becomes of the bench: the word stands at its index; or the bench is kept, and refusal 10 is borne out.
-fn say_outcome(as_said: bool, index: usize, number: u32) {
+fn say_outcome(rt: &HostRuntime, as_said: bool, index: usize, number: u32) {
     if index < BENCH_WORDS {
-        lines::whether(as_said, b", at its place\n|, NOT AT ITS PLACE\n");
+        lines::whether(rt, as_said, b", at its place\n|, NOT AT ITS PLACE\n");
     } else if number == 10 {
-        lines::whether(as_said, b", borne out, bench kept\n|, borne out, NOT SO\n");
+        lines::whether(
+            rt,
+            as_said,
+            b", borne out, bench kept\n|, borne out, NOT SO\n",
+        );
     } else {
-        lines::whether(as_said, b", bench kept\n|, NOT SO\n");
+        lines::whether(rt, as_said, b", bench kept\n|, NOT SO\n");
     }
 }
 
@@ -81,42 +85,53 @@ fn is_as_said(bench: [u32; BENCH_WORDS], word: u32, index: usize, told: Told) ->
     same_bench(&next, &counted(expected)) & (answer.number != NOT_SHOWN)
 }
 
-fn show_bind(name: &[u8], bench: [u32; BENCH_WORDS], word: u32, index: usize) {
+fn show_bind(rt: &HostRuntime, name: &[u8], bench: [u32; BENCH_WORDS], word: u32, index: usize) {
     let told = calls::bind(bench, word);
     let answer = told.answer;
-    say::word(b"    ", word);
-    say::text(b", ");
-    lines::answer(name, answer);
-    say_outcome(is_as_said(bench, word, index, told), index, answer.number);
+    say::word(rt, b"    ", word);
+    say::text(rt, b", ");
+    lines::answer(rt, name, answer);
+    say_outcome(
+        rt,
+        is_as_said(bench, word, index, told),
+        index,
+        answer.number,
+    );
 }
 
-fn show(name: &[u8], row: u64) {
+fn show(rt: &HostRuntime, name: &[u8], row: u64) {
     let width = row / 0x1_0000_0000_0000;
     let bound = row / 0x100_0000_0000 % 256;
     let index = row / 0x1_0000_0000 % 256;
     let bench = bench_with((width % 256) as u32, bound as u32);
-    show_bind(name, bench, (row % 0x1_0000_0000) as u32, index as usize);
+    show_bind(
+        rt,
+        name,
+        bench,
+        (row % 0x1_0000_0000) as u32,
+        index as usize,
+    );
 }
 
-fn show_row(i: usize) {
+fn show_row(rt: &HostRuntime, i: usize) {
     if i < 36 {
-        show(name_at(&NAMES, i), BINDS[i]);
+        show(rt, name_at(&NAMES, i), BINDS[i]);
     }
 }
 
-fn show_rows(from: usize, to: usize) {
+fn show_rows(rt: &HostRuntime, from: usize, to: usize) {
     let mut i = from;
     while i < to {
-        show_row(i);
+        show_row(rt, i);
         i += 1;
     }
 }
 
-pub fn report() {
-    say::text(b"bind, ADD being bound\n");
-    show_rows(0, 28);
-    say::text(b"bind, LT as GOR of RINHI\n");
-    show_rows(28, 30);
-    say::text(b"bind on benches that are not sound\n");
-    show_rows(30, 36);
+pub fn report(rt: &HostRuntime) {
+    say::text(rt, b"bind, ADD being bound\n");
+    show_rows(rt, 0, 28);
+    say::text(rt, b"bind, LT as GOR of RINHI\n");
+    show_rows(rt, 28, 30);
+    say::text(rt, b"bind on benches that are not sound\n");
+    show_rows(rt, 30, 36);
 }

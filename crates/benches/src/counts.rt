@@ -9,29 +9,29 @@ use testing::say;
 const COUNTS: [u32; 8] = [148, 147, 149, 0, 0xFFFF_FFFF, 76, 157, 0x8000_0094];
 
 // What a call says, and whether the bench and the lent words are as they were.
-fn show_call(name: &[u8], told: Told, bench: [u32; BENCH_WORDS]) {
+fn show_call(rt: &HostRuntime, name: &[u8], told: Told, bench: [u32; BENCH_WORDS]) {
     let answer = told.answer;
     let next = told.bench;
-    lines::answer(name, answer);
-    lines::whether(same_bench(&next, &bench) & told.untouched, b" kept|");
+    lines::answer(rt, name, answer);
+    lines::whether(rt, same_bench(&next, &bench) & told.untouched, b" kept|");
 }
 
-fn show_count(count: u32) {
+fn show_count(rt: &HostRuntime, count: u32) {
     let mut bench = bench_with(16, ALL);
     bench[GLUE] = count;
-    say::count(b"    stored ", count as u64);
-    show_call(b", bind", calls::bind(bench, ADD_RULE), bench);
-    show_call(b", release", calls::release(bench, 8), bench);
-    show_call(b", price", calls::price(bench), bench);
-    show_call(b", finish", calls::finish(bench, 6), bench);
-    say::text(b"\n");
+    say::count(rt, b"    stored ", count as u64);
+    show_call(rt, b", bind", calls::bind(bench, ADD_RULE), bench);
+    show_call(rt, b", release", calls::release(bench, 8), bench);
+    show_call(rt, b", price", calls::price(bench), bench);
+    show_call(rt, b", finish", calls::finish(bench, 6), bench);
+    say::text(rt, b"\n");
 }
 
-pub fn report() {
-    say::text(b"the printed job bound, with a count\n");
+pub fn report(rt: &HostRuntime) {
+    say::text(rt, b"the printed job bound, with a count\n");
     let mut i = 0;
     while i < 8 {
-        show_count(COUNTS[i]);
+        show_count(rt, COUNTS[i]);
         i += 1;
     }
 }

@@ -28,59 +28,64 @@ fn bench_of(row: u32) -> [u32; BENCH_WORDS] {
 }
 
 // A call that keeps its bench.
-fn show_told(name: &[u8], told: Told, bench: [u32; BENCH_WORDS]) {
+fn show_told(rt: &HostRuntime, name: &[u8], told: Told, bench: [u32; BENCH_WORDS]) {
     let answer = told.answer;
     let next = told.bench;
-    say::text(b"    ");
-    lines::answer(name, answer);
-    lines::whether(same_bench(&next, &bench), b", bench kept|, BENCH CHANGED");
+    say::text(rt, b"    ");
+    lines::answer(rt, name, answer);
+    lines::whether(
+        rt,
+        same_bench(&next, &bench),
+        b", bench kept|, BENCH CHANGED",
+    );
 }
 
-fn show_finish(name: &[u8], row: u32) {
+fn show_finish(rt: &HostRuntime, name: &[u8], row: u32) {
     let bench = bench_of(row);
     let finished = calls::finish(bench, (row % 256) as usize);
-    show_told(name, finished, bench);
+    show_told(rt, name, finished, bench);
     if finished.untouched {
-        say::text(b", lent words untouched\n");
+        say::text(rt, b", lent words untouched\n");
     } else {
         lines::whether(
+            rt,
             finished.printed,
             b", the printed mapping and nothing past it\n|, OTHER WORDS\n",
         );
     }
 }
 
-fn show_row(i: usize) {
+fn show_row(rt: &HostRuntime, i: usize) {
     if i < 12 {
-        show_finish(name_at(&FINISH_NAMES, i), FINISHES[i]);
+        show_finish(rt, name_at(&FINISH_NAMES, i), FINISHES[i]);
     }
 }
 
-fn show_finishes() {
+fn show_finishes(rt: &HostRuntime) {
     let mut i = 0;
     while i < 12 {
-        show_row(i);
+        show_row(rt, i);
         i += 1;
     }
 }
 
-fn show_price(name: &[u8], row: u32) {
+fn show_price(rt: &HostRuntime, name: &[u8], row: u32) {
     let bench = bench_of(row);
-    show_told(name, calls::price(bench), bench);
-    say::text(b"\n");
+    show_told(rt, name, calls::price(bench), bench);
+    say::text(rt, b"\n");
 }
 
-fn show_prices() {
+fn show_prices(rt: &HostRuntime) {
     let mut i = 0;
     while i < 4 {
-        show_price(name_at(&PRICE_NAMES, i), PRICES[i]);
+        show_price(rt, name_at(&PRICE_NAMES, i), PRICES[i]);
         i += 1;
     }
 }
 
-pub fn report() {
-    say::text(b"finish\n");
-    show_finishes();
-    say::text(b"price\n");
-    show_prices();
+pub fn report(rt: &HostRuntime) {
+    say::text(rt, b"finish\n");
+    show_finishes(rt);
+    say::text(rt, b"price\n");
+    show_prices(rt);
 }

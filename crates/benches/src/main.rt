@@ -2,6 +2,8 @@
 // the bench's; runs in which calls are refused; and benches spoilt in a bit or a word, beside the second account of which benches are
 // sound. The lines that show an answer are compared with those that document 01 asks for. The program is a test, so its contracts say
 // only what safety needs.
+#![tactic(auto)]
+
 mod binds;
 mod counts;
 mod finishes;
@@ -9,15 +11,15 @@ mod opens;
 mod orders;
 mod printed;
 mod runs;
-mod tally;
+mod tallies;
 
-fn main() {
-    printed::report();
-    orders::report();
-    opens::report();
-    binds::report();
-    finishes::report();
-    counts::report();
-    runs::report();
-    tally::report();
+fn main(rt: HostRuntime) {
+    printed::report(&rt);
+    orders::report(&rt);
+    opens::report(&rt);
+    binds::report(&rt);
+    finishes::report(&rt);
+    counts::report(&rt);
+    runs::report(&rt);
+    tallies::report(&rt);
 }

@@ -50,68 +50,68 @@ const CHANGE_NAMES: [u8; 415] =
     |2 before 3|3 before 4|5 before 6";
 
 // Opens a job; refused, it hands back the bench of zeros. The bench of the printed job is named too: it does not tell of the book.
-fn show(name: &[u8], words: &[u32]) {
+fn show(rt: &HostRuntime, name: &[u8], words: &[u32]) {
     let opened = calls::open(words);
     let told = opened.answer;
     let bench = opened.bench;
-    say::text(b"    ");
-    lines::answer(name, told);
-    lines::whether(same_bench(&bench, &[0u32; BENCH_WORDS]), b", zeros|");
+    say::text(rt, b"    ");
+    lines::answer(rt, name, told);
+    lines::whether(rt, same_bench(&bench, &[0u32; BENCH_WORDS]), b", zeros|");
     let of_printed = same_bench(&bench, &bench_with(16, 0));
-    lines::whether(of_printed, b", the printed job's bench\n|\n");
+    lines::whether(rt, of_printed, b", the printed job's bench\n|\n");
 }
 
 // AND, no targets, and AND from scratch as often as there is room.
-fn show_long(name: &[u8], size: usize) {
+fn show_long(rt: &HostRuntime, name: &[u8], size: usize) {
     let mut words = [0x5400_0001u32; 569];
     words[0] = 0x1000_0010;
     words[1] = 0x2001_0103;
     words[2] = 0x3000_0008;
-    show(name, first(&words, size));
+    show(rt, name, first(&words, size));
 }
 
-fn show_size(name: &[u8], size: usize) {
+fn show_size(rt: &HostRuntime, name: &[u8], size: usize) {
     if size > 14 {
-        show_long(name, size);
+        show_long(rt, name, size);
     } else {
-        show(name, first(&JOB, size));
+        show(rt, name, first(&JOB, size));
     }
 }
 
-fn show_sizes() {
+fn show_sizes(rt: &HostRuntime) {
     let mut i = 0;
     while i < 8 {
-        show_size(name_at(&SIZE_NAMES, i), SIZES[i]);
+        show_size(rt, name_at(&SIZE_NAMES, i), SIZES[i]);
         i += 1;
     }
 }
 
-fn show_changed(name: &[u8], job: [u32; 14], row: u64) {
+fn show_changed(rt: &HostRuntime, name: &[u8], job: [u32; 14], row: u64) {
     let mut words = job;
     let word = (row % 0x1_0000_0000) as u32;
     put(&mut words, (row / 0x1_0000_0000) as usize, word);
-    show(name, &words);
+    show(rt, name, &words);
 }
 
-fn show_change(i: usize) {
+fn show_change(rt: &HostRuntime, i: usize) {
     if i < 25 {
-        show_changed(name_at(&CHANGE_NAMES, i), JOB, CHANGES[i]);
+        show_changed(rt, name_at(&CHANGE_NAMES, i), JOB, CHANGES[i]);
     }
 }
 
-fn show_changes() {
+fn show_changes(rt: &HostRuntime) {
     let mut i = 0;
     while i < 25 {
-        show_change(i);
+        show_change(rt, i);
         i += 1;
     }
 }
 
-pub fn report() {
-    say::text(b"open\n");
-    show_sizes();
-    show_changes();
+pub fn report(rt: &HostRuntime) {
+    say::text(rt, b"open\n");
+    show_sizes(rt);
+    show_changes(rt);
     let mut other = JOB;
     other[5] = 0x3000_001C;
-    show_changed(b"the first of two words", other, 0x03_3000_0001);
+    show_changed(rt, b"the first of two words", other, 0x03_3000_0001);
 }

@@ -8,7 +8,7 @@ use testing::say;
 use testing::tally::more;
 
 // Orders tried; those in which every bind was done; that end in the stored bench; and in the printed words.
-#[derive(Drop)]
+#[derive(Clone, Copy)]
 struct Orders {
     tried: u64,
     done: u64,
@@ -75,9 +75,10 @@ fn with_orders() -> Orders {
     all
 }
 
-pub fn report() {
+pub fn report(rt: &HostRuntime) {
     let all = with_orders();
     say::line(
+        rt,
         b"the four rules in each order: # tried, all binds done in #, the same bench in #, the printed mapping in #\n",
         &[all.tried, all.done, all.same, all.written],
     );

@@ -28,7 +28,7 @@ const UNBOUND: [usize; 4] = [1, 3, 8, 25];
 
 // The bench of a run; its calls that were to be refused; those that were, as expected; those that left the bench, and the lent words,
 // as they were; and the binds that were done.
-#[derive(Drop)]
+#[derive(Clone, Copy)]
 pub struct Run {
     pub bench: [u32; BENCH_WORDS],
     tried: u64,
@@ -122,14 +122,16 @@ fn with_steps() -> Run {
 }
 
 // At the end a finish into words that are too few.
-pub fn report() {
+pub fn report(rt: &HostRuntime) {
     let run = with_finish(with_steps(), 5, 23, 6);
     say::line(
+        rt,
         b"a run with refused calls: # tried, refused as expected #, bench and lent words kept #; binds done #",
         &[run.tried, run.refused, run.kept, run.done],
     );
     let last = run.bench;
     lines::whether(
+        rt,
         writes_the_mapping(last),
         b"; the printed mapping written\n|; OTHER WORDS WRITTEN\n",
     );

@@ -1,6 +1,5 @@
 -- Document 01, "Mapper and bench": the best rule for a source, "the usable rule that makes the glue .. least, the earlier rule on equal glue".
-use Rattle.std.specs.Prelude.{ℕ, Bool, true, false, ◌&&◌, List, [], ◌∷◌, eqb, ltb}
-use Rattle.words.specs.Choice.{if◌then◌else◌}
+use Rattle.std.specs.Prelude.{ℕ, Bool, true, false, ◌&&◌, List, [], ◌∷◌, eqb, ltb, if◌then◌else◌}
 use Rattle.recipe.specs.Fields.{source_of}
 use Rattle.binding.specs.Right.{is_right}
 use Rattle.table.specs.Parts.{Terms}

@@ -1,4 +1,6 @@
 // The best rule for a source: one rule more beside the best so far.
+#![tactic(auto)]
+
 ghost use Rattle.std.specs.Prelude.{◌≡◌};
 ghost use Rattle.bits.specs.Asked as Q;
 ghost use Rattle.table.specs.Parts as T;
@@ -8,7 +10,7 @@ ghost use Rattle.best.specs.Beside as K;
 use reader::Job;
 
 // The best rule so far for a source, and the glue that it makes with the bindings before it.
-#[derive(Drop)]
+#[derive(Clone, Copy)]
 pub struct Best {
     pub found: bool,
     pub word: u32,

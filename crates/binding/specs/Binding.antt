@@ -1,6 +1,5 @@
 -- Document 01, "What a binding shows".
-use Rattle.std.specs.Prelude.{ℕ, Bool}
-use Rattle.words.specs.Choice.{if◌then◌else◌}
+use Rattle.std.specs.Prelude.{ℕ, Bool, if◌then◌else◌}
 use Rattle.bits.specs.Wiring.{wired, carried, I0, I1, ICIN}
 use Rattle.alu.specs.Function.{function_of, ports}
 use Rattle.bits.specs.declared.Ports.{Ports}

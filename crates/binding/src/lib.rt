@@ -1,4 +1,6 @@
 // What a binding shows: document 01, "What a binding shows". A recipe's target works on wired inputs, and output codes show its ports.
+#![tactic(auto)]
+
 ghost use Rattle.std.specs.Prelude.{◌≡◌, ◌^◌, ◌<◌};
 ghost use Rattle.bits.specs.Asked as Q;
 ghost use Rattle.binding.specs.Binding as B;
@@ -9,7 +11,7 @@ use bits::Ports;
 use output::Outputs;
 
 // A function on wired inputs.
-#[derive(Drop)]
+#[derive(Clone, Copy)]
 pub struct Side {
     pub kind: Kind,
     pub left: u32,
@@ -17,14 +19,14 @@ pub struct Side {
     pub carry: u32,
 }
 
-#[derive(Drop)]
+#[derive(Clone, Copy)]
 pub struct Recipe {
     pub target: Side,
     pub outputs: Outputs,
 }
 
 // What is claimed of a recipe: that it shows what the side of its source shows. Refusals write the source as `function`.
-#[derive(Drop)]
+#[derive(Clone, Copy)]
 pub struct Claim {
     pub function: u32,
     pub source: Side,

@@ -6,7 +6,7 @@ use mathlib.Core.Bool.{beq}
 use lib.Pow.{low}
 use lib.Bits.{bit_and, and_mask}
 use borrow.Author.Tests.{lt-leb}
-use Rattle.words.specs.Choice.{if◌then◌else◌}
+use Rattle.std.specs.Prelude.{if◌then◌else◌}
 use Rattle.bits.specs.Bits.{num, exor, bit, top, word}
 use Rattle.bits.specs.Sum.{overflows, sum}
 use Rattle.bits.specs.Asked.{Operands}

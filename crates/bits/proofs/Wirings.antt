@@ -5,7 +5,7 @@ use native.Mathlib.Nat.{sub-zero}
 use mathlib.Core.Bool.{beq}
 use lib.ListN.{get_or-eq_default}
 use lib.Bits.{bit_and, bit_xor, and_mask, and_comm, xor_zero_r, xor_add_and, xor_lt}
-use Rattle.words.specs.Choice.{if◌then◌else◌}
+use Rattle.std.specs.Prelude.{if◌then◌else◌}
 use Rattle.bits.specs.Bits.{exor}
 use Rattle.bits.specs.Wiring.{wired, carried, complement}
 

@@ -1,6 +1,5 @@
 -- Document 01, "Functions": what a comparison shows.
-use Rattle.std.specs.Prelude.{ℕ, Bool, int_lt}
-use Rattle.words.specs.Choice.{if◌then◌else◌}
+use Rattle.std.specs.Prelude.{ℕ, Bool, int_lt, if◌then◌else◌}
 use Rattle.bits.specs.Bits.{value}
 
 -- "Comparisons are of two's complement values."

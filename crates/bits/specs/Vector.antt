@@ -1,6 +1,5 @@
 -- Document 01, "Functions": what a logic vector gives.
-use Rattle.std.specs.Prelude.{ℕ, Bool}
-use Rattle.words.specs.Choice.{if◌then◌else◌}
+use Rattle.std.specs.Prelude.{ℕ, Bool, if◌then◌else◌}
 use Rattle.bits.specs.Bits.{bit, word}
 
 -- "bit 3 for NOT I0 AND NOT I1, bit 2 for NOT I0 AND I1, bit 1 for I0 AND NOT I1, bit 0 for I0 AND I1"

@@ -1,8 +1,7 @@
 // "O0 is the sum modulo 2^n, wrapping at every width, 64 included": a wrapping add of u64 operands and carry, cut to the width
 // below 64, with the carry out recovered from the wrapped sum.
-ghost use Rattle.std.specs.Prelude.{◌≡◌, ◌+◌, ◌%◌, ◌^◌, ◌<◌, ◌&&◌, nat_le, nat_lt};
+ghost use Rattle.std.specs.Prelude.{◌≡◌, ◌+◌, ◌%◌, ◌^◌, ◌<◌, ◌&&◌, nat_le, nat_lt, if◌then◌else◌};
 ghost use Rattle.std.specs.Bool.{beq};
-ghost use Rattle.words.specs.Choice.{if◌then◌else◌};
 ghost use Rattle.bits.specs.Bits as B;
 ghost use Rattle.bits.specs.Sum as S;
 ghost use Rattle.bits.specs.Asked as Q;
@@ -11,7 +10,7 @@ ghost use Rattle.bits.specs.Adder.{cut};
 use crate::{Ports, ones, top};
 
 // A sum cut to the width, and whether it reached 2^n.
-#[derive(Drop)]
+#[derive(Clone, Copy)]
 pub struct CutSum {
     pub word: u64,
     pub carry: bool,

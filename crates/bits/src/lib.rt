@@ -1,4 +1,6 @@
 // Words of n bits, n from 1 to 64: what wiring and carry codes give of them, their sums, logic vectors and order.
+#![tactic(auto)]
+
 mod adder;
 mod logic;
 mod order;
@@ -29,7 +31,7 @@ pub const CARRY_ONE: u32 = 1;
 pub const ICIN: u32 = 2;
 
 // What is shown: O0, OCOUT, OVF and O1. An undriven port shows 0.
-#[derive(Drop)]
+#[derive(Clone, Copy)]
 pub struct Ports {
     pub o0: u64,
     pub ocout: bool,

@@ -1,5 +1,7 @@
 // The book: recipes drawn from the report's appendix A and their obvious companions (docs/BOOK.md), each right at every width. They rise as
 // numbers, and so by source function, and none stands twice.
+#![tactic(auto)]
+
 ghost use Rattle.std.specs.Prelude.{◌≡◌, ◌<◌, get_or, length};
 ghost use Rattle.book.specs.Book.{book};
 

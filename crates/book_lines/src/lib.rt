@@ -1,4 +1,6 @@
 // The lines of the book: each rule as a binding is printed, and the record of the report's appendix that it comes from.
+#![tactic(auto)]
+
 ghost use Rattle.std.specs.Prelude.{◌+◌, ◌≤◌, ◌<◌, length};
 ghost use Rattle.book.specs.Book.{book};
 ghost use Rattle.text.specs.Text.{Puts};

@@ -1,7 +1,6 @@
 -- What check_mapping says of what it read: "a last word cut short is 2 at its index", the job's before all else, the mapping's before the
 -- mapping's other refusals; "the checker's 1 to 6 also say which of the two is meant". A file that could not be read has no answer.
-use Rattle.std.specs.Prelude.{ℕ, Bool, true, false, List, []}
-use Rattle.words.specs.Choice.{if◌then◌else◌}
+use Rattle.std.specs.Prelude.{ℕ, Bool, true, false, List, [], if◌then◌else◌}
 use Rattle.words.specs.Paper.{refusal}
 use Rattle.text.specs.Text.{Puts, bytes}
 use Rattle.lines.specs.Lines.{refused_line, refused_file_line, wrong_line}

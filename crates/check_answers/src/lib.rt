@@ -1,4 +1,6 @@
 // What check_mapping says of what it read: the answer to its two files, and its text, put into lent bytes.
+#![tactic(auto)]
+
 ghost use Rattle.std.specs.Prelude.{◌≡◌, ◌≤◌, length};
 ghost use Rattle.text.specs.Text as P;
 ghost use Rattle.lines.specs.Lines as L;

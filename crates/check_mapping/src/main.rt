@@ -1,14 +1,16 @@
 // Checks a mapping against its job: check_mapping JOB MAPPING, two file names. It prints ACCEPTED, or the refusal. What cannot be read or
 // written is said on standard error.
+#![tactic(auto)]
+
 use input::KEPT_WORDS;
 use lines::MOST_LINE_BYTES;
 
 // Checks the mapping of the two files.
-fn check() {
+fn check(rt: &HostRuntime) {
     let mut job = [0u32; KEPT_WORDS];
     let mut mapping = [0u32; KEPT_WORDS];
-    let first = input::read_file(1, &mut job);
-    let second = input::read_file(2, &mut mapping);
+    let first = input::read_file(rt, 1, &mut job);
+    let second = input::read_file(rt, 2, &mut mapping);
     let job_kept = first.kept;
     let mapping_kept = second.kept;
     let mut out = [0u8; MOST_LINE_BYTES];
@@ -19,15 +21,16 @@ fn check() {
         second,
         &mut out,
     );
-    console::print(&out[..end]);
+    console::print(rt, &out[..end]);
 }
 
 // How the program is called.
 const USAGE: [u8; 33] = *b"usage: check_mapping JOB MAPPING\n";
 
-fn help() {
-    console::print(&USAGE);
+fn help(rt: &HostRuntime) {
+    console::print(rt, &USAGE);
     console::print(
+        rt,
         b"\n\
         Prints ACCEPTED, or the refusal of the mapping or of its job. The files hold words of four bytes, the lowest first, as\n\
         map_job writes them and pack_words makes them of text.\n\
@@ -36,14 +39,14 @@ fn help() {
     );
 }
 
-fn main() {
-    if arguments::asks_help() {
-        help();
+fn main(rt: HostRuntime) {
+    if arguments::asks_help(&rt) {
+        help(&rt);
         return;
     }
-    if os::arg_count() != 3 {
-        arguments::usage(&USAGE);
+    if arguments::count(&rt) != 3 {
+        arguments::usage(&rt, &USAGE);
         return;
     }
-    check();
+    check(&rt);
 }

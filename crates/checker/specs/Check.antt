@@ -1,6 +1,5 @@
 -- Document 01, "Refusals that come from the input": what the checker answers to a job and a mapping.
-use Rattle.std.specs.Prelude.{ℕ, ◌≡◌, not, List, [], eqb, length}
-use Rattle.words.specs.Choice.{if◌then◌else◌}
+use Rattle.std.specs.Prelude.{ℕ, ◌≡◌, not, List, [], eqb, length, if◌then◌else◌}
 use Rattle.words.specs.Paper.{Paper, refusal, source_place, accepted, told, told_of_job, told_of_mapping}
 use Rattle.alu.specs.Function.{no_function}
 use Rattle.verdict.specs.Verdicts.{Differs, wrong_paper, Ruling, Gives, Names}

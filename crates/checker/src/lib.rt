@@ -1,5 +1,7 @@
 // The checker: a job and a mapping are accepted, or refused by the first of 1 to 11 that holds. Document 01, "Refusals that come
 // from the input".
+#![tactic(auto)]
+
 ghost use Rattle.std.specs.Prelude.{◌≡◌};
 ghost use Rattle.bits.specs.Asked as Q;
 ghost use Rattle.table.specs.Parts as T;
@@ -11,7 +13,7 @@ use verdict::Verdict;
 use words::{Refusal, Witness};
 
 // Accepted; the first refusal, 1 to 6, of the job or of the mapping; another, 7, 8, 9 or 11; or 10, with its values.
-#[derive(Drop)]
+#[derive(Clone, Copy)]
 pub enum Checked {
     Accepted,
     JobRefused(Refusal),

@@ -33,8 +33,8 @@ fn printed_at(n: u32) -> [u32; 20] {
     rightly_priced(words)
 }
 
-fn with_both(all: Tallies, both: &[u32]) -> Tallies {
-    compared(all, first(both, MIDDLE), after(both, MIDDLE))
+fn with_both(rt: &HostRuntime, all: Tallies, both: &[u32]) -> Tallies {
+    compared(rt, all, first(both, MIDDLE), after(both, MIDDLE))
 }
 
 fn turned(both: [u32; 20], bit: u32) -> [u32; 20] {
@@ -45,12 +45,12 @@ fn turned(both: [u32; 20], bit: u32) -> [u32; 20] {
 }
 
 // Each bit from one on to before another, turned. The bits are counted from the lowest of the first word.
-fn with_each_bit(all: Tallies, both: [u32; 20], from: u32, to: u32) -> Tallies {
+fn with_each_bit(rt: &HostRuntime, all: Tallies, both: [u32; 20], from: u32, to: u32) -> Tallies {
     let mut all = all;
     let mut bit = from;
     while bit < to {
         let changed = turned(both, bit);
-        let next = with_both(all, &changed);
+        let next = with_both(rt, all, &changed);
         all = next;
         bit += 1;
     }
@@ -58,32 +58,37 @@ fn with_each_bit(all: Tallies, both: [u32; 20], from: u32, to: u32) -> Tallies {
 }
 
 // Each of these bits turned, with each bit of the mapping after it.
-fn two_bits(n: u32, from: u32, to: u32) -> Tallies {
+fn two_bits(rt: &HostRuntime, n: u32, from: u32, to: u32) -> Tallies {
     let both = printed_at(n);
     let mut all = none();
     let mut bit = from;
     while bit < to {
         let start = if bit < JOB_BITS { JOB_BITS } else { bit + 1 };
-        let next = with_each_bit(all, turned(both, bit), start, BITS);
+        let next = with_each_bit(rt, all, turned(both, bit), start, BITS);
         all = next;
         bit += 1;
     }
     all
 }
 
-fn with_cut(all: Tallies, both: &[u32], i: usize) -> Tallies {
+fn with_cut(rt: &HostRuntime, all: Tallies, both: &[u32], i: usize) -> Tallies {
     let job = if i < 6 { MIDDLE } else { i - 6 };
     let mapping = if i < 6 { i } else { 6 };
-    compared(all, first(both, job), first(after(both, MIDDLE), mapping))
+    compared(
+        rt,
+        all,
+        first(both, job),
+        first(after(both, MIDDLE), mapping),
+    )
 }
 
 // The mapping cut short, to none of its words and more; then the job.
-fn cut_short(n: u32) -> Tallies {
+fn cut_short(rt: &HostRuntime, n: u32) -> Tallies {
     let both = printed_at(n);
     let mut all = none();
     let mut i = 0;
     while i < 20 {
-        let next = with_cut(all, &both, i);
+        let next = with_cut(rt, all, &both, i);
         all = next;
         i += 1;
     }
@@ -108,16 +113,16 @@ fn without(both: &[u32], index: usize) -> [u32; 5] {
     words
 }
 
-fn with_left_out(all: Tallies, both: &[u32], index: usize) -> Tallies {
-    compared(all, first(both, MIDDLE), &without(both, index))
+fn with_left_out(rt: &HostRuntime, all: Tallies, both: &[u32], index: usize) -> Tallies {
+    compared(rt, all, first(both, MIDDLE), &without(both, index))
 }
 
-fn a_binding_left_out(n: u32) -> Tallies {
+fn a_binding_left_out(rt: &HostRuntime, n: u32) -> Tallies {
     let both = printed_at(n);
     let mut all = none();
     let mut index = 1;
     while index < 5 {
-        let next = with_left_out(all, &both, index);
+        let next = with_left_out(rt, all, &both, index);
         all = next;
         index += 1;
     }
@@ -125,22 +130,28 @@ fn a_binding_left_out(n: u32) -> Tallies {
 }
 
 // A rule bound instead of a binding: as the mapping is priced, and rightly priced.
-fn with_rule(all: Tallies, both: [u32; 20], rule: usize, binding: usize) -> Tallies {
+fn with_rule(
+    rt: &HostRuntime,
+    all: Tallies,
+    both: [u32; 20],
+    rule: usize,
+    binding: usize,
+) -> Tallies {
     let word = at(&both, wrapping_add_usize(rule, 8));
     let mut words = both;
     let index = wrapping_add_usize(binding, MIDDLE + 1);
     put(&mut words, index, word % 0x1000_0000 | 0x6000_0000);
     let priced = rightly_priced(words);
-    with_both(with_both(all, &words), &priced)
+    with_both(rt, with_both(rt, all, &words), &priced)
 }
 
 // Each of the six rules of the job instead of each of the four bindings.
-fn a_rule_bound(n: u32) -> Tallies {
+fn a_rule_bound(rt: &HostRuntime, n: u32) -> Tallies {
     let both = printed_at(n);
     let mut all = none();
     let mut i = 0;
     while i < 24 {
-        let next = with_rule(all, both, i % 6, i / 6);
+        let next = with_rule(rt, all, both, i % 6, i / 6);
         all = next;
         i += 1;
     }
@@ -148,28 +159,28 @@ fn a_rule_bound(n: u32) -> Tallies {
 }
 
 // The bit that asks for the book, in the header of neither, of the job, of the mapping and of both.
-fn the_book_asked_for(n: u32) -> Tallies {
+fn the_book_asked_for(rt: &HostRuntime, n: u32) -> Tallies {
     let both = printed_at(n);
     let asked = turned(both, BOOK_BIT);
-    let of_job = with_both(with_both(none(), &both), &asked);
-    let of_mapping = with_both(of_job, &turned(both, JOB_BITS + BOOK_BIT));
-    with_both(of_mapping, &turned(asked, JOB_BITS + BOOK_BIT))
+    let of_job = with_both(rt, with_both(rt, none(), &both), &asked);
+    let of_mapping = with_both(rt, of_job, &turned(both, JOB_BITS + BOOK_BIT));
+    with_both(rt, of_mapping, &turned(asked, JOB_BITS + BOOK_BIT))
 }
 
 pub const NAMES: [u8; 125] = *b"as printed|a bit of the mapping changed|a bit of the job changed\
     |cut short|a binding left out|a rule bound|the book asked for";
 
 // By the index of its name; then two bits changed: of the mapping, and one of each.
-pub fn group(which: u32, n: u32) -> Tallies {
+pub fn group(rt: &HostRuntime, which: u32, n: u32) -> Tallies {
     match which {
-        0 => with_both(none(), &printed_at(n)),
-        1 => with_each_bit(none(), printed_at(n), JOB_BITS, BITS),
-        2 => with_each_bit(none(), printed_at(n), 0, JOB_BITS),
-        3 => cut_short(n),
-        4 => a_binding_left_out(n),
-        5 => a_rule_bound(n),
-        6 => the_book_asked_for(n),
-        7 => two_bits(n, JOB_BITS, BITS),
-        _ => two_bits(n, 0, JOB_BITS),
+        0 => with_both(rt, none(), &printed_at(n)),
+        1 => with_each_bit(rt, none(), printed_at(n), JOB_BITS, BITS),
+        2 => with_each_bit(rt, none(), printed_at(n), 0, JOB_BITS),
+        3 => cut_short(rt, n),
+        4 => a_binding_left_out(rt, n),
+        5 => a_rule_bound(rt, n),
+        6 => the_book_asked_for(rt, n),
+        7 => two_bits(rt, n, JOB_BITS, BITS),
+        _ => two_bits(rt, n, 0, JOB_BITS),
     }
 }

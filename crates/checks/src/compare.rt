@@ -10,7 +10,7 @@ use testing::say;
 use testing::tally::{Numbers, no_numbers, noted};
 
 // Of the checker and of the pricer.
-#[derive(Drop)]
+#[derive(Clone, Copy)]
 pub struct Tallies {
     pub checks: Numbers,
     pub prices: Numbers,
@@ -59,16 +59,17 @@ pub fn of_priced(answer: Priced) -> Answer {
     }
 }
 
-fn say_difference(what: &[u8], number: u32, job: &[u32], mapping: &[u32]) {
-    say::text(what);
-    say::count(b" differs, with ", number as u64);
-    say::words(b": job", job);
-    say::words(b", mapping", mapping);
-    say::text(b"\n");
+fn say_difference(rt: &HostRuntime, what: &[u8], number: u32, job: &[u32], mapping: &[u32]) {
+    say::text(rt, what);
+    say::count(rt, b" differs, with ", number as u64);
+    say::words(rt, b": job", job);
+    say::words(rt, b", mapping", mapping);
+    say::text(rt, b"\n");
 }
 
 // An answer more. The first difference of a tally is written out.
 fn with(
+    rt: &HostRuntime,
     what: &[u8],
     all: Numbers,
     number: u32,
@@ -78,59 +79,59 @@ fn with(
 ) -> Numbers {
     let tally = all.tally;
     if !same & (tally.differ == 0) {
-        say_difference(what, number, job, mapping);
+        say_difference(rt, what, number, job, mapping);
     }
     noted(all, number, same)
 }
 
-fn with_check(all: Numbers, job: &[u32], mapping: &[u32]) -> Numbers {
+fn with_check(rt: &HostRuntime, all: Numbers, job: &[u32], mapping: &[u32]) -> Numbers {
     let told = of_checked(checker::check(job, mapping), job, mapping);
     let same = (told.number == 10) | same_answer(told, check(job, mapping));
-    with(b"check", all, told.number, same, job, mapping)
+    with(rt, b"check", all, told.number, same, job, mapping)
 }
 
-fn with_price(all: Numbers, job: &[u32], mapping: &[u32]) -> Numbers {
+fn with_price(rt: &HostRuntime, all: Numbers, job: &[u32], mapping: &[u32]) -> Numbers {
     let told = of_priced(pricer::price(job, mapping));
     let same = same_answer(told, price(job, mapping));
-    with(b"price", all, told.number, same, job, mapping)
+    with(rt, b"price", all, told.number, same, job, mapping)
 }
 
 // One job and mapping more.
-pub fn compared(all: Tallies, job: &[u32], mapping: &[u32]) -> Tallies {
+pub fn compared(rt: &HostRuntime, all: Tallies, job: &[u32], mapping: &[u32]) -> Tallies {
     let checks = all.checks;
     let prices = all.prices;
     Tallies {
-        checks: with_check(checks, job, mapping),
-        prices: with_price(prices, job, mapping),
+        checks: with_check(rt, checks, job, mapping),
+        prices: with_price(rt, prices, job, mapping),
     }
 }
 
 // How many had each number that some had.
-fn say_refused(by: [u64; 12]) {
+fn say_refused(rt: &HostRuntime, by: [u64; 12]) {
     let mut number = 1;
     while number < 12 {
         if by[number] != 0 {
-            say::line(b", refused #: #", &[number as u64, by[number]]);
+            say::line(rt, b", refused #: #", &[number as u64, by[number]]);
         }
         number += 1;
     }
 }
 
-fn report_one(form: &[u8], all: Numbers) {
+fn report_one(rt: &HostRuntime, form: &[u8], all: Numbers) {
     let tally = all.tally;
     let by = all.by;
-    say::line(form, &[tally.compared, tally.differ, by[0]]);
-    say_refused(by);
+    say::line(rt, form, &[tally.compared, tally.differ, by[0]]);
+    say_refused(rt, by);
 }
 
 // Two lines for a group at a width.
-pub fn report(name: &[u8], n: u32, all: Tallies) {
+pub fn report(rt: &HostRuntime, name: &[u8], n: u32, all: Tallies) {
     let checks = all.checks;
     let prices = all.prices;
-    say::count(b"width ", n as u64);
-    say::text(b", ");
-    say::text(name);
-    report_one(b": # compared, # differ; accepted: #", checks);
-    report_one(b"\n    price: # compared, # differ; counted: #", prices);
-    say::text(b"\n");
+    say::count(rt, b"width ", n as u64);
+    say::text(rt, b", ");
+    say::text(rt, name);
+    report_one(rt, b": # compared, # differ; accepted: #", checks);
+    report_one(rt, b"\n    price: # compared, # differ; counted: #", prices);
+    say::text(rt, b"\n");
 }

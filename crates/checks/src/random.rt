@@ -9,7 +9,7 @@ use testing::words::{first, glue_word, word_of};
 const VECTORS: [u32; 16] = [0, 15, 1, 14, 7, 8, 6, 9, 3, 5, 12, 10, 4, 2, 13, 11];
 
 // Words written one after another.
-#[derive(Drop)]
+#[derive(Clone, Copy)]
 struct File {
     words: [u32; 64],
     size: usize,
@@ -116,12 +116,13 @@ fn mapping_of(job: &[u32], n: u32, random: u64) -> File {
     with(file, true, glue_word(count ^ other))
 }
 
-fn with_random(all: Tallies, n: u32, random: u64) -> Tallies {
+fn with_random(rt: &HostRuntime, all: Tallies, n: u32, random: u64) -> Tallies {
     let job = job_of(n, random);
     let job_words = job.words;
     let mapping = mapping_of(&job_words, n, random);
     let mapping_words = mapping.words;
     compared(
+        rt,
         all,
         first(&job_words, job.size),
         first(&mapping_words, mapping.size),
@@ -129,12 +130,12 @@ fn with_random(all: Tallies, n: u32, random: u64) -> Tallies {
 }
 
 // So many, at a width.
-pub fn random_files(n: u32, count: u64) -> Tallies {
+pub fn random_files(rt: &HostRuntime, n: u32, count: u64) -> Tallies {
     let mut all = none();
     let mut random = next(0x2545_f491_4f6c_dd1d ^ (n as u64));
     let mut i = 0;
     while i < count {
-        let more = with_random(all, n, random);
+        let more = with_random(rt, all, n, random);
         all = more;
         random = next(next(next(random)));
         i += 1;

@@ -8,7 +8,7 @@ use native.Mathlib.Omega.{arith}
 use lib.Bits.{bit_or}
 use lib.ListN.{length, take, drop, get_or, set, drop_of_length-le, length-append, get_or-append}
 use lib.Seq.{take-suc-set, get_or-append-add}
-use Rattle.words.specs.Choice.{if◌then◌else◌}
+use Rattle.std.specs.Prelude.{if◌then◌else◌}
 use Rattle.words.specs.Field.{source_function}
 use Rattle.words.proofs.Lists.{drop-next}
 use Rattle.reader.specs.declared.Job.{Job}

@@ -1,6 +1,5 @@
 -- Document 01, "Mapper and bench": the choice, a rule for each source in turn.
-use Rattle.std.specs.Prelude.{ℕ, List, [], ◌∷◌, ◌++◌}
-use Rattle.words.specs.Choice.{if◌then◌else◌}
+use Rattle.std.specs.Prelude.{ℕ, List, [], ◌∷◌, ◌++◌, if◌then◌else◌}
 use Rattle.words.specs.Field.{source_function}
 use Rattle.words.specs.Paper.{source_place}
 use Rattle.table.specs.Parts.{Terms}

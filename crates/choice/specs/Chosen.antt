@@ -1,6 +1,5 @@
 -- How the code keeps its choice. Nobody has to believe this: Choose.antt says what the choice is.
-use Rattle.std.specs.Prelude.{ℕ, ◌+◌, ◌^◌, ◌<◌, ◌≤◌, ◌≡◌, true, List, length, take}
-use Rattle.words.specs.Choice.{if◌then◌else◌}
+use Rattle.std.specs.Prelude.{ℕ, ◌+◌, ◌^◌, ◌<◌, ◌≤◌, ◌≡◌, true, List, length, take, if◌then◌else◌}
 use Rattle.bits.specs.Asked.{Width}
 use Rattle.sequence.specs.Limits.{most_sources}
 use Rattle.reader.specs.declared.Job.{Job}

@@ -1,4 +1,6 @@
 // The choice of a rule for each source.
+#![tactic(auto)]
+
 ghost use Rattle.std.specs.Prelude.{◌≡◌, [], ◌++◌, ◌+◌, ◌<◌, ◌≤◌, length, get_or};
 ghost use Rattle.bits.specs.Asked as Q;
 ghost use Rattle.sequence.specs.Limits.{most_sources};
@@ -11,7 +13,7 @@ use reader::Job;
 use sequence::MOST_SOURCES;
 
 // A rule for each source in table order and what they use, or the place of the source that proves unmappable.
-#[derive(Drop)]
+#[derive(Clone, Copy)]
 pub struct Chosen {
     pub words: [u32; MOST_SOURCES],
     pub used: u64,

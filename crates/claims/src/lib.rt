@@ -1,4 +1,6 @@
 // What a rule or a binding claims under a job's tables, and the verdict on it.
+#![tactic(auto)]
+
 ghost use Rattle.std.specs.Prelude.{◌≡◌};
 ghost use Rattle.bits.specs.Asked as Q;
 ghost use Rattle.binding.specs.Right as R;

@@ -9,12 +9,12 @@ use borrow.Author.Tests.{ne_eqb, le-leb, lt-ltb, le-ltb, ltb-true, ltb-false}
 use lib.Dec.{eqb, leb, ltb}
 use lib.ListN.{length, take, drop, set, length-set}
 use lib.Seq.{take_all, take-nil, take-suc, take-set-le, take-append-le, length-take-le, get_or-set_same}
-use Rattle.words.specs.Choice.{if◌then◌else◌}
+use Rattle.std.specs.Prelude.{if◌then◌else◌}
 use Rattle.text.specs.Text.{bytes, same}
-use Rattle.hex.specs.Hex.{digit_of, between, ended, with_digit, digits_left}
-use Rattle.hex.specs.declared.Hex.{Hex}
-use Rattle.hex.specs.declared.Step.{Step}
-use Rattle.hex.specs.declared.Step.TheVariants.{Bad}
+use Rattle.hexadecimal.specs.Hex.{digit_of, between, ended, with_digit, digits_left}
+use Rattle.hexadecimal.specs.declared.Hex.{Hex}
+use Rattle.hexadecimal.specs.declared.Step.{Step}
+use Rattle.hexadecimal.specs.declared.Step.TheVariants.{Bad}
 use Rattle.commands.specs.Commands.{passed_over, release_command, command_with, command_of, line_bytes, empty_line, with_byte, command_in, line_of}
 use Rattle.commands.specs.declared.Line.{Line}
 

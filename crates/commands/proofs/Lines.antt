@@ -3,7 +3,7 @@ use mathlib.Core.Path.{◌≡◌, sym, ap, ◌∙◌}
 use mathlib.Core.List.{List}
 use Prim.Native.Nat.{◌≤◌, ◌<◌}
 use native.Mathlib.Omega.{arith}
-use lib.ListN.{length, take, length-map}
+use lib.ListN.{length, take}
 use lib.Seq.{take_all, length-take-le}
 use mir.Val.{Val}
 use denote.Laws.{Is}
@@ -15,7 +15,7 @@ use Rattle.commands.specs.contracts.Line.{the_type}
 
 -- its type says how many bytes there are
 pub line_shaped : (l : Line) (vs : List Val) → Is (row the_type) l vs → length l.bytes ≡ line_bytes
-line_shaped l vs g = sym (length-map l.bytes _) ∙ g.1.1.0.1.0.1
+line_shaped l vs g = g.1.1.0.1.0.1
 
 module _ (l : Line) (h : length l.bytes ≡ line_bytes) where
   pub full_line : (r : Command) → line_bytes < l.length → r ≡ command_of l.bytes → r ≡ command_in l

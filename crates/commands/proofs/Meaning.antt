@@ -12,10 +12,10 @@ use Rattle.words.proofs.Choices.{either}
 use Rattle.words.proofs.Lists.{drop-next, part_from}
 use Rattle.text.specs.Text.{bytes, same}
 use Rattle.text.proofs.Compared.{other_length}
-use Rattle.hex.specs.Hex.{digit_of, word_in}
-use Rattle.hex.specs.declared.Step.{Step}
-use Rattle.hex.specs.declared.Step.TheVariants.{More, Word, Bad}
-use Rattle.hex.specs.declared.Hex.{Hex}
+use Rattle.hexadecimal.specs.Hex.{digit_of, word_in}
+use Rattle.hexadecimal.specs.declared.Step.{Step}
+use Rattle.hexadecimal.specs.declared.Step.TheVariants.{More, Word, Bad}
+use Rattle.hexadecimal.specs.declared.Hex.{Hex}
 use Rattle.commands.specs.Commands.{passed_over, bind_command, digits_release, release_command, begins, command_with, command_of}
 use Rattle.commands.specs.declared.Command.{Command}
 use Rattle.commands.specs.declared.Command.TheVariants.{Pass, Bind, Release, Price, Show, Finish, Unknown}

@@ -1,11 +1,10 @@
 -- The commands of work_bench: a line is one of these words, "bind " and a word's eight digits, "release " and a function's decimal digits,
 -- or nothing that is a command. An empty line, and one that begins with "#", is passed over.
-use Rattle.std.specs.Prelude.{ℕ, ◌+◌, ◌*◌, ◌^◌, Bool, true, List, [], ◌∷◌, eqb, leb, ltb, length, take, drop, set, replicate}
-use Rattle.words.specs.Choice.{if◌then◌else◌}
+use Rattle.std.specs.Prelude.{ℕ, ◌+◌, ◌*◌, ◌^◌, Bool, true, List, [], ◌∷◌, eqb, leb, ltb, length, take, drop, set, replicate, if◌then◌else◌}
 use Rattle.text.specs.Text.{bytes, same}
-use Rattle.hex.specs.Hex.{digit_of, word_in}
-use Rattle.hex.specs.declared.Step.{Step}
-use Rattle.hex.specs.declared.Step.TheVariants.{More, Word, Bad}
+use Rattle.hexadecimal.specs.Hex.{digit_of, word_in}
+use Rattle.hexadecimal.specs.declared.Step.{Step}
+use Rattle.hexadecimal.specs.declared.Step.TheVariants.{More, Word, Bad}
 use Rattle.commands.specs.declared.Command.{Command}
 use Rattle.commands.specs.declared.Command.TheVariants.{Pass, Bind, Release, Price, Show, Finish, Unknown}
 use Rattle.commands.specs.declared.Line.{Line}

@@ -1,12 +1,14 @@
 // The commands of work_bench: what a line means, and a line as it is read.
+#![tactic(auto)]
+
 ghost use Rattle.std.specs.Prelude.{◌≡◌, []};
-ghost use Rattle.hex.specs.Hex as T;
+ghost use Rattle.hexadecimal.specs.Hex as T;
 ghost use Rattle.commands.specs.Commands as C;
 
-use hex::Step;
+use hexadecimal::Step;
 
 // A line passed over; a command of the bench; or neither.
-#[derive(Drop)]
+#[derive(Clone, Copy)]
 pub enum Command {
     Pass,
     Bind(u32),
@@ -21,7 +23,7 @@ pub enum Command {
 const LINE_BYTES: usize = 32;
 
 // The first bytes of a line so far, and how many they are.
-#[derive(Drop)]
+#[derive(Clone, Copy)]
 pub struct Line {
     pub bytes: [u8; LINE_BYTES],
     pub length: usize,
@@ -62,7 +64,7 @@ fn passed_over(line: &[u8]) -> bool
 fn bind_command(digits: &[u8]) -> Command
     ensures { result ≡ C.bind_command (T.word_in digits.now) }
 {
-    let step = hex::word_in(digits);
+    let step = hexadecimal::word_in(digits);
     match step {
         Step::Word(word, _) => Command::Bind(word),
         Step::More(_) => Command::Unknown,
@@ -89,7 +91,7 @@ fn release_command(digits: &[u8]) -> Command
         if TOO_LARGE <= function {
             return Command::Unknown;
         }
-        let digit = hex::digit_of(digits[i]);
+        let digit = hexadecimal::digit_of(digits[i]);
         if 10 <= digit {
             return Command::Unknown;
         }

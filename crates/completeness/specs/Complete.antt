@@ -1,6 +1,5 @@
 -- Document 01, refusal 9: a mapping "is complete if 9 does not" hold.
-use Rattle.std.specs.Prelude.{ℕ, Bool, true, false, not, List, [], ◌∷◌, eqb}
-use Rattle.words.specs.Choice.{if◌then◌else◌}
+use Rattle.std.specs.Prelude.{ℕ, Bool, true, false, not, List, [], ◌∷◌, eqb, if◌then◌else◌}
 use Rattle.words.specs.Field.{source_function}
 use Rattle.alu.specs.Function.{no_function}
 use Rattle.recipe.specs.Fields.{source_of}

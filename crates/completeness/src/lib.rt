@@ -1,4 +1,6 @@
 // Whether every source of a job has a binding: refusal 9.
+#![tactic(auto)]
+
 ghost use Rattle.std.specs.Prelude.{◌≡◌};
 ghost use Rattle.completeness.specs.Complete as C;
 

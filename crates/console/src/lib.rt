@@ -1,33 +1,47 @@
 // Standard output and standard input. What cannot be read or written is said on standard error.
+#![tactic(auto)]
+
 ghost use Rattle.std.specs.Prelude.{◌≤◌};
 
-use libc::{STDERR_FILENO, STDIN_FILENO, STDOUT_FILENO};
+use std::io::{Error, Read};
 
 // How many bytes are read at a time.
 const BUFFER: usize = 512;
 
+// Writes bytes to standard error.
+pub fn tell(rt: &HostRuntime, bytes: &[u8]) {
+    let _ = rt.stderr().write_all(bytes);
+}
+
+// Says on standard error what could not be opened, read or written, and why.
+pub fn fail(rt: &HostRuntime, what: &[u8], why: Error) {
+    tell(rt, what);
+    let _ = eprintln!(rt; ": {why}");
+}
+
 // Writes bytes to standard output, and answers whether it could.
-pub fn print(bytes: &[u8]) -> bool {
-    let written = io::write_all(STDOUT_FILENO, bytes);
-    if !written {
-        os::fail(b"standard output");
+pub fn print(rt: &HostRuntime, bytes: &[u8]) -> bool {
+    match rt.write_all(bytes) {
+        Ok(()) => true,
+        Err(why) => {
+            fail(rt, b"standard output", why);
+            false
+        }
     }
-    written
 }
 
 // Says at which byte a text of words cannot go on.
-pub fn complain(program: &[u8], at: usize) {
-    io::write_all(STDERR_FILENO, program);
-    io::write_all(STDERR_FILENO, b": byte ");
-    io::print_decimal(STDERR_FILENO, at as u64);
-    io::write_all(
-        STDERR_FILENO,
+pub fn complain(rt: &HostRuntime, program: &[u8], at: usize) {
+    tell(rt, program);
+    let _ = eprint!(rt; ": byte {at}");
+    tell(
+        rt,
         b": words are eight hexadecimal digits, parted by spaces or line feeds; # begins a comment\n",
     );
 }
 
 // The bytes of standard input that were read and not yet taken: those from `at` on, up to `end`.
-#[derive(Drop)]
+#[derive(Clone, Copy)]
 pub struct Stdin {
     bytes: [u8; BUFFER],
     at: usize,
@@ -35,7 +49,7 @@ pub struct Stdin {
 }
 
 // A byte, the end of standard input, or a read that failed.
-#[derive(Drop)]
+#[derive(Clone, Copy)]
 pub enum Got {
     Byte(u8),
     End,
@@ -43,7 +57,7 @@ pub enum Got {
 }
 
 // What was got, and standard input after it.
-#[derive(Drop)]
+#[derive(Clone, Copy)]
 pub struct Taken {
     pub stdin: Stdin,
     pub got: Got,
@@ -61,19 +75,20 @@ pub fn unread() -> Stdin
 }
 
 // Reads more, and takes the first byte.
-fn refilled() -> Taken
+fn refilled(rt: &HostRuntime) -> Taken
     ensures { result.stdin.end ≤ 512 }
 {
     let mut bytes = [0u8; BUFFER];
-    let got = libc::read(STDIN_FILENO, &mut bytes);
-    if got < 0 {
-        os::fail(b"standard input");
-        return Taken {
-            stdin: unread(),
-            got: Got::Failed,
-        };
-    }
-    let end = io::count(got, &bytes);
+    let end = match rt.stdin().read(&mut bytes) {
+        Ok(count) => count,
+        Err(why) => {
+            fail(rt, b"standard input", why);
+            return Taken {
+                stdin: unread(),
+                got: Got::Failed,
+            };
+        }
+    };
     if end == 0 {
         return Taken {
             stdin: unread(),
@@ -89,13 +104,13 @@ fn refilled() -> Taken
 
 impl Stdin {
     // Takes the next byte. A read that fails is said on standard error.
-    pub fn next(mut self) -> Taken
+    pub fn next(mut self, rt: &HostRuntime) -> Taken
         requires { self.end ≤ 512 }
         ensures { result.stdin.end ≤ 512 }
     {
         let at = self.at;
         if self.end <= at {
-            return refilled();
+            return refilled(rt);
         }
         let byte = self.bytes[at];
         self.at = at + 1;

@@ -48,7 +48,7 @@ module _ (ws : List ℕ) (job : Job) (e : WellFormedJob ws job) (bound : List �
       let k' : k < length bound = omega (arith, bindings_length bound) in
       let w = get_or bound k 0 in
       ap (in_job (sources_of ws job) (targets_of ws job)) (bindings_at bound k k')
-      ∙ entries.in-job-when (sources_of ws job) (targets_of ws job) (binding_word w)
+      ∙ entries.in_job-when (sources_of ws job) (targets_of ws job) (binding_word w)
       (ap (lists_source (sources_of ws job)) (source_same w) ∙ source_listed k k')
       (has_target-same w (targets_of ws job) ∙ b.target_there k k')
 

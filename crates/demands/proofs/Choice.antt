@@ -10,7 +10,7 @@ use lib.ListN.{length, take, get_or, length-append}
 use lib.Seq.{take-take, take-length, take-append_seam, get_or-take, get_or-append_seam}
 use native.Mathlib.Nat.{add-zero}
 use borrow.Author.Tests.{ltb-true, ltb-false}
-use Rattle.words.specs.Choice.{if◌then◌else◌}
+use Rattle.std.specs.Prelude.{if◌then◌else◌}
 use Rattle.words.specs.Field.{source_function}
 use Rattle.words.specs.Paper.{source_place}
 use Rattle.words.proofs.Choices.{either}

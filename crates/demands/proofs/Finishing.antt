@@ -8,7 +8,7 @@ use native.Mathlib.Omega.{arith}
 use lib.Dec.{eqb, ltb}
 use lib.ListN.{length, get_or, get_or-append}
 use borrow.Author.Tests.{eq-eqb, eqb-true, ltb-true}
-use Rattle.words.specs.Choice.{if◌then◌else◌}
+use Rattle.std.specs.Prelude.{if◌then◌else◌}
 use Rattle.words.specs.Paper.{refusal}
 use Rattle.sequence.specs.Limits.{most_sources}
 use Rattle.reader.specs.Job.{WellFormedJob}

@@ -8,7 +8,7 @@ use native.Mathlib.Omega.{arith}
 use lib.ListN.{length, get_or, length-append, length-drop, get_or-append}
 use lib.Seq.{get_or-drop, get_or-append-add}
 use borrow.Author.Tests.{eq-eqb}
-use Rattle.words.specs.Choice.{if◌then◌else◌}
+use Rattle.std.specs.Prelude.{if◌then◌else◌}
 use Rattle.words.specs.Kinds.{RULE}
 use Rattle.words.proofs.Choices.{and_join}
 use Rattle.binding.specs.Binding.{plain, recipe_of}

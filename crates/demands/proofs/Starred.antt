@@ -14,7 +14,7 @@ use Rattle.bits.specs.Order.{below}
 use Rattle.alu.specs.Function.{ports}
 use Rattle.alu.specs.Range.{is_function, is_width}
 use Rattle.alu.specs.Evaluate.{first_out_of_range, evaluation, paper_of}
-use Rattle.binding.specs.Binding.{recipe_of, shows, side_shows}
+use Rattle.binding.specs.Binding.{recipe_of, side_shows}
 use Rattle.output.specs.Output.{outputs_show}
 use Rattle.binding.specs.Right.{Agrees, every, agrees, is_right_for, is_right, claim_of}
 use Rattle.binding.proofs.Tests.{same_ports_lem, right_test}

@@ -9,7 +9,7 @@ use native.Mathlib.Omega.{arith}
 use lib.Dec.{eqb, ltb}
 use lib.ListN.{length, take, drop}
 use borrow.Author.Tests.{eqb-false, lt-leb, le-ltb}
-use Rattle.words.specs.Choice.{if◌then◌else◌}
+use Rattle.std.specs.Prelude.{if◌then◌else◌}
 use Rattle.words.specs.Paper.{Paper, refusal, accepted, refused, source_place}
 use Rattle.bits.specs.Bits.{num}
 use Rattle.bits.specs.declared.Ports.{Ports}

@@ -1,7 +1,6 @@
 -- The words in which demand 1 is said: "A job, mapping, recipe or bench handed in is accepted, or refused with one number of document 01
 -- and its place."
-use Rattle.std.specs.Prelude.{ℕ, ◌≡◌, Bool, true, false, ◌||◌, List, [], ◌∷◌, ◌++◌, eqb}
-use Rattle.words.specs.Choice.{if◌then◌else◌}
+use Rattle.std.specs.Prelude.{ℕ, ◌≡◌, Bool, true, false, ◌||◌, List, [], ◌∷◌, ◌++◌, eqb, if◌then◌else◌}
 use Rattle.words.specs.Paper.{Paper, no_refusal}
 use Rattle.alu.specs.declared.Evaluation.{Evaluation}
 use Rattle.alu.specs.declared.Evaluation.TheVariants as evaluation

@@ -1,6 +1,8 @@
-// The interface for programs in other languages: a function is evaluated, a recipe judged, a job mapped, a mapping priced and checked. Words
-// and lent words pass as a pointer and a length. Each call returns the number of document 01's refusal, 0 for none, stores its place, and puts the
-// values that come with the answer into the caller's `out`.
+// The interface for programs in other languages: a function is evaluated, a recipe judged, a job mapped, a mapping priced and checked. Each call
+// returns the number of document 01's refusal, 0 for none, stores its place, and puts the values that come with the answer into the caller's
+// `out`. `deqhulov_c` exports these calls.
+#![tactic(auto)]
+
 mod answers;
 
 ghost use Rattle.std.specs.Prelude.{◌≡◌};
@@ -11,8 +13,7 @@ ghost use Rattle.report.specs.Told as R;
 ghost use Rattle.deqhulov.specs.Tells as D;
 
 // Evaluates a function at a width, two operands and a carry. The values are the four ports.
-#[unsafe(no_mangle)]
-pub extern "C" fn deqhulov_evaluate(
+pub fn deqhulov_evaluate(
     function: u32,
     width: u32,
     left: u64,
@@ -29,13 +30,7 @@ pub extern "C" fn deqhulov_evaluate(
 }
 
 // Prices a mapping under its job. The value is the glue count; that of a refusal 1 to 6 is 0 for the job and 1 for the mapping.
-#[unsafe(no_mangle)]
-pub extern "C" fn deqhulov_price(
-    job: &[u32],
-    mapping: &[u32],
-    place: &mut u64,
-    out: &mut [u64],
-) -> u32
+pub fn deqhulov_price(job: &[u32], mapping: &[u32], place: &mut u64, out: &mut [u64]) -> u32
     ensures { R.Told (P.paper_of (P.pricing_of job.now mapping.now)) result place.new out.old out.new }
 {
     let priced = pricer::price(job, mapping);
@@ -44,13 +39,7 @@ pub extern "C" fn deqhulov_price(
 }
 
 // Maps a job into lent words. The value is the number of words written.
-#[unsafe(no_mangle)]
-pub extern "C" fn deqhulov_map(
-    job: &[u32],
-    lent: &mut [u32],
-    place: &mut u64,
-    out: &mut [u64],
-) -> u32
+pub fn deqhulov_map(job: &[u32], lent: &mut [u32], place: &mut u64, out: &mut [u64]) -> u32
     ensures told { R.Told (M.paper_of (M.answer_of job.now lent.old)) result place.new out.old out.new }
     ensures written { lent.new ≡ M.lent_after_map job.now lent.old }
 {
@@ -61,13 +50,7 @@ pub extern "C" fn deqhulov_map(
 
 // Checks a mapping against its job. The value of a refusal 1 to 6 is 0 for the job and 1 for the mapping; those of 10 are the port,
 // the operands and the carry.
-#[unsafe(no_mangle)]
-pub extern "C" fn deqhulov_check(
-    job: &[u32],
-    mapping: &[u32],
-    place: &mut u64,
-    out: &mut [u64],
-) -> u32
+pub fn deqhulov_check(job: &[u32], mapping: &[u32], place: &mut u64, out: &mut [u64]) -> u32
     ensures { D.TellsCheck job.now mapping.now result place.new out.old out.new }
 {
     let checked = checker::check(job, mapping);
@@ -76,8 +59,7 @@ pub extern "C" fn deqhulov_check(
 }
 
 // Judges a recipe word at a width. The values of 10 are the port, the operands and the carry.
-#[unsafe(no_mangle)]
-pub extern "C" fn deqhulov_judge(word: u32, width: u32, place: &mut u64, out: &mut [u64]) -> u32
+pub fn deqhulov_judge(word: u32, width: u32, place: &mut u64, out: &mut [u64]) -> u32
     ensures { D.TellsJudgement word width result place.new out.old out.new }
 {
     let judgement = verdict::judge(word, width);

@@ -9,12 +9,12 @@ use borrow.Author.Tests.{le-leb, lt-leb, ltb-true, ltb-false}
 use lib.Dec.{ltb}
 use lib.ListN.{length, take}
 use lib.Seq.{take-append_seam}
-use Rattle.words.specs.Choice.{if◌then◌else◌}
+use Rattle.std.specs.Prelude.{if◌then◌else◌}
 use Rattle.text.specs.Text.{bytes, glyph, digits, hexadecimal}
 use Rattle.text.proofs.Putting.{digits_length}
-use Rattle.hex.specs.Hex.{digit_of, between, ended, digits_left, word_in}
-use Rattle.hex.specs.declared.Hex.{Hex}
-use Rattle.hex.specs.declared.Step.TheVariants.{Word}
+use Rattle.hexadecimal.specs.Hex.{digit_of, between, ended, digits_left, word_in}
+use Rattle.hexadecimal.specs.declared.Hex.{Hex}
+use Rattle.hexadecimal.specs.declared.Step.TheVariants.{Word}
 use Rattle.describe.specs.Describe.{meaning_text, word_line}
 
 low_digit : (d : ℕ) → d < 10 → digit_of (48 + d) ≡ d

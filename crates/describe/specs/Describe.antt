@@ -1,6 +1,5 @@
 -- The line of a word, as show_words prints it: its eight digits, and what it is in document 01's words ("Words").
-use Rattle.std.specs.Prelude.{ℕ, Bool, false, not, List, [], ◌++◌, eqb, leb, ltb}
-use Rattle.words.specs.Choice.{if◌then◌else◌}
+use Rattle.std.specs.Prelude.{ℕ, Bool, false, not, List, [], ◌++◌, eqb, leb, ltb, if◌then◌else◌}
 use Rattle.words.specs.Field.{field, kind_of, content_of, source_function, target_function}
 use Rattle.words.specs.Kinds.{HEADER, PRICES, SOURCE, TARGET, RULE, GLUE, is_recipe}
 use Rattle.words.specs.Paper.{no_refusal}

@@ -1,4 +1,6 @@
 // A word in document 01's words: what it is, or its refusal, put into lent bytes as one line.
+#![tactic(auto)]
+
 mod fault;
 mod kind;
 mod recipes;

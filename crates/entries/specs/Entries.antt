@@ -1,7 +1,6 @@
 -- The entries of a bench, one for each source in table order: where a source's is, whether something is bound to it, and the first in
 -- which nothing stands.
-use Rattle.std.specs.Prelude.{ℕ, ◌+◌, Bool, not, List, [], ◌∷◌, eqb, get_or}
-use Rattle.words.specs.Choice.{if◌then◌else◌}
+use Rattle.std.specs.Prelude.{ℕ, ◌+◌, Bool, not, List, [], ◌∷◌, eqb, get_or, if◌then◌else◌}
 use Rattle.words.specs.Field.{source_function}
 use Rattle.alu.specs.Function.{no_function}
 use Rattle.soundness.specs.Sound.{nothing}

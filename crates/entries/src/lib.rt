@@ -1,5 +1,7 @@
 // What is asked of sound tables, and of what is bound to their sources. The bench stands on this crate, so it hands over its parts.
-mod search;
+#![tactic(auto)]
+
+mod lookup;
 
 ghost use Rattle.std.specs.Prelude.{◌≡◌, true, ◌≤◌};
 ghost use Rattle.sequence.specs.Limits.{most_sources};
@@ -32,7 +34,7 @@ pub fn entry_for(tables: Tables, function: u32) -> usize
 {
     let sources = tables.sources;
     let nsources = tables.nsources as usize;
-    search::entry_of(&sources[..nsources], function)
+    lookup::entry_of(&sources[..nsources], function)
 }
 
 // Whether something is bound to a function.
@@ -71,5 +73,5 @@ pub fn unbound_on(tables: Tables, bound: [u32; MOST_SOURCES]) -> u32
 {
     let sources = tables.sources;
     let nsources = tables.nsources as usize;
-    search::first_empty(&sources[..nsources], &bound)
+    lookup::first_empty(&sources[..nsources], &bound)
 }

@@ -11,7 +11,7 @@ use lib.Dec.{eqb}
 use lib.ListN.{get_or, length}
 use lib.Pow.{pow_mono}
 use borrow.Author.Tests.{lt-leb, le-leb, lt-ltb, le-ltb}
-use Rattle.words.specs.Choice.{if◌then◌else◌}
+use Rattle.std.specs.Prelude.{if◌then◌else◌}
 use Rattle.bits.specs.Bits.{num, bit, word}
 use Rattle.bits.proofs.Words.{bit_word, word_lt}
 use Rattle.binding.specs.declared.Side.{Side}

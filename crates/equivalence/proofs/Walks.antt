@@ -9,7 +9,7 @@ use mathlib.Core.List.{List}
 use lib.ListN.{get_or}
 use lib.Pow.{pow_pos, pow_mono}
 use borrow.Author.Tests.{lt-ltb, le-ltb}
-use Rattle.words.specs.Choice.{if◌then◌else◌}
+use Rattle.std.specs.Prelude.{if◌then◌else◌}
 use Rattle.bits.specs.Bits.{num, bit}
 use Rattle.bits.proofs.Sums.{num-lt}
 use Rattle.bits.proofs.Words.{suc-sub_one}

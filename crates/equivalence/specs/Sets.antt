@@ -1,8 +1,7 @@
 -- What the search for operands at which a recipe fails goes by: tables of what happens at one place, sets of failing states from the top
 -- place down, and a walk from the lowest place up.
 -- Nothing here has to be believed: the proofs show that what is found is what Verdicts.antt of the crate verdict says.
-use Rattle.std.specs.Prelude.{ℕ, zero, suc, ◌+◌, ◌-◌, ◌*◌, ◌/◌, ◌%◌, ◌^◌, ◌≤◌, ◌<◌, Bool, true, false, ◌||◌, eqb, ltb, leb, get_or, length, ◌≡◌, List}
-use Rattle.words.specs.Choice.{if◌then◌else◌}
+use Rattle.std.specs.Prelude.{ℕ, zero, suc, ◌+◌, ◌-◌, ◌*◌, ◌/◌, ◌%◌, ◌^◌, ◌≤◌, ◌<◌, Bool, true, false, ◌||◌, eqb, ltb, leb, get_or, length, ◌≡◌, List, if◌then◌else◌}
 use Rattle.bits.specs.Bits.{num, bit, word}
 use Rattle.binding.specs.declared.Side.{Side}
 use Rattle.output.specs.declared.Outputs.{Outputs}

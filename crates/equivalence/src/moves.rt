@@ -9,7 +9,7 @@ use output::Outputs;
 
 // For each state and pair of bits, at 4 * state + pair: the number of the state after it, or 64 where O0 differs; and 64 where a port
 // differs if the place is the top one, else 0.
-#[derive(Drop)]
+#[derive(Clone, Copy)]
 pub struct Tables {
     pub moves: [u8; 256],
     pub tops: [u8; 256],

@@ -4,7 +4,7 @@ ghost use Rattle.bits.specs.Bits.{num};
 ghost use Rattle.equivalence.specs.Sets as S;
 
 // The sets with 1, 2, .. places to go, up to sets[last]; from there on they are all the same.
-#[derive(Drop)]
+#[derive(Clone, Copy)]
 pub struct Rounds {
     pub sets: [u64; 64],
     pub last: usize,

@@ -4,14 +4,14 @@ ghost use Rattle.equivalence.specs.Sets as S;
 
 use crate::rounds;
 
-#[derive(Drop)]
+#[derive(Clone, Copy)]
 pub struct Operands {
     pub left: u64,
     pub right: u64,
 }
 
 // The pair of bits at a place, and the state to which it leads.
-#[derive(Drop)]
+#[derive(Clone, Copy)]
 pub enum Step {
     Ends(usize),
     Leads(usize, usize),

@@ -5,7 +5,7 @@ use testing::say;
 use testing::tally::Tally;
 
 // What an evaluator is given, in document 01's order.
-#[derive(Drop)]
+#[derive(Clone, Copy)]
 pub struct Given {
     pub function: u32,
     pub width: u32,
@@ -15,7 +15,7 @@ pub struct Given {
 }
 
 // The refusal, 3 and its place; or 0, 5 and the four ports.
-#[derive(Drop)]
+#[derive(Clone, Copy)]
 pub struct Told {
     pub number: u32,
     pub place: usize,
@@ -78,8 +78,9 @@ pub fn agree(given: Given, place: usize) -> bool {
         & (told.o1 == second.o1)
 }
 
-fn say_told(told: Told) {
+fn say_told(rt: &HostRuntime, told: Told) {
     say::line(
+        rt,
         b"# at # O0 # OCOUT # OVF # O1 #",
         &[
             told.number as u64,
@@ -92,8 +93,9 @@ fn say_told(told: Told) {
     );
 }
 
-fn say_difference(given: Given) {
+fn say_difference(rt: &HostRuntime, given: Given) {
     say::line(
+        rt,
         b"differs: function # width # left # right # carry #; alu: refused ",
         &[
             given.function as u64,
@@ -103,17 +105,17 @@ fn say_difference(given: Given) {
             given.carry as u64,
         ],
     );
-    say_told(of_alu(given));
-    say::text(b"; reference: refused ");
-    say_told(of_reference(given));
-    say::text(b"\n");
+    say_told(rt, of_alu(given));
+    say::text(rt, b"; reference: refused ");
+    say_told(rt, of_reference(given));
+    say::text(rt, b"\n");
 }
 
 // One comparison more. The first difference of a tally is written out.
-pub fn counted(tally: Tally, given: Given, same: bool) -> Tally {
+pub fn counted(rt: &HostRuntime, tally: Tally, given: Given, same: bool) -> Tally {
     if !same {
         if tally.differ == 0 {
-            say_difference(given);
+            say_difference(rt, given);
         }
     }
     testing::tally::counted(tally, same)

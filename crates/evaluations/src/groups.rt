@@ -3,7 +3,7 @@ use crate::beside::{Given, agree, counted, of_reference};
 use testing::tally::Tally;
 
 // Each function at a width, of zeros: refused at `place`, or shown where that is 5.
-pub fn at_width(width: u32, place: usize) -> Tally {
+pub fn at_width(rt: &HostRuntime, width: u32, place: usize) -> Tally {
     let mut tally = testing::tally::none();
     let mut function = 1;
     while function <= 27 {
@@ -14,7 +14,7 @@ pub fn at_width(width: u32, place: usize) -> Tally {
             right: 0,
             carry: 0,
         };
-        let next = counted(tally, given, agree(given, place));
+        let next = counted(rt, tally, given, agree(given, place));
         tally = next;
         function += 1;
     }
@@ -28,7 +28,7 @@ const VECTORS: [u64; 16] = [
 ];
 
 // At 0011 and 0101 each pair of bits stands at the place of its minterm, so that a logic function shows its vector.
-pub fn vectors() -> Tally {
+pub fn vectors(rt: &HostRuntime) -> Tally {
     let mut tally = testing::tally::none();
     let mut i = 0;
     while i < 16 {
@@ -40,7 +40,7 @@ pub fn vectors() -> Tally {
             carry: 0,
         };
         let same = agree(given, 5) & (of_reference(given).o0 == VECTORS[i]);
-        let next = counted(tally, given, same);
+        let next = counted(rt, tally, given, same);
         tally = next;
         i += 1;
     }
@@ -49,7 +49,7 @@ pub fn vectors() -> Tally {
 
 // The inputs from one on to before another: 27 functions turning fastest, then 64 widths, then the reference's operands, of which 98
 // are corners and the rest random.
-pub fn turns(from: u32, to: u32) -> Tally {
+pub fn turns(rt: &HostRuntime, from: u32, to: u32) -> Tally {
     let mut tally = testing::tally::none();
     let mut x = 0x2545_f491_4f6c_dd1d;
     let mut i = from;
@@ -63,7 +63,7 @@ pub fn turns(from: u32, to: u32) -> Tally {
             right: operands.right,
             carry: operands.carry,
         };
-        let next = counted(tally, given, agree(given, 5));
+        let next = counted(rt, tally, given, agree(given, 5));
         tally = next;
         x = reference::trial::next(reference::trial::next(reference::trial::next(x)));
         i += 1;

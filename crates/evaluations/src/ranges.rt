@@ -60,13 +60,13 @@ fn first_place(i: u32) -> usize {
 }
 
 // All choices that are first out of range at a place; at 5, all that are in range.
-pub fn first_out_at(place: usize) -> Tally {
+pub fn first_out_at(rt: &HostRuntime, place: usize) -> Tally {
     let mut tally = testing::tally::none();
     let mut i = 0;
     while i < 3125 {
         if first_place(i) == place {
             let given = choice(i);
-            let next = counted(tally, given, agree(given, place));
+            let next = counted(rt, tally, given, agree(given, place));
             tally = next;
         }
         i += 1;

@@ -1,15 +1,19 @@
 // Maps the jobs of the examples and checks their mappings; each file is a text of words in hexadecimal digits, with comments. Then inputs for
 // every other kind of answer. All goes through the functions of the programs.
+#![tactic(auto)]
+
 mod cases;
 mod said;
 
 ghost use Rattle.std.specs.Prelude.{◌+◌, ◌≤◌, ◌<◌, length};
 
-use hex::{Hex, Step};
+use hexadecimal::{Hex, Step};
 use input::KEPT_WORDS;
+use std::fs::File;
+use std::io::Read;
 
 // The word being read, the words so far, and whether a byte could not stand where it was.
-#[derive(Drop)]
+#[derive(Clone, Copy)]
 struct Taken {
     hex: Hex,
     count: usize,
@@ -21,7 +25,7 @@ fn take(hex: Hex, byte: u8, words: &mut [u32], count: usize) -> Taken
     requires { count < length words.old }
     ensures { result.count ≤ count + 1 }
 {
-    let step = hex::taken(hex, byte);
+    let step = hexadecimal::taken(hex, byte);
     match step {
         Step::More(more) => Taken {
             hex: more,
@@ -48,7 +52,7 @@ fn take(hex: Hex, byte: u8, words: &mut [u32], count: usize) -> Taken
 fn words_in(bytes: &[u8], words: &mut [u32]) -> usize
     ensures { result ≤ length words.old }
 {
-    let mut hex = hex::between(false);
+    let mut hex = hexadecimal::between(false);
     let mut count = 0;
     let mut i = 0;
     while i < bytes.len() {
@@ -69,56 +73,76 @@ fn words_in(bytes: &[u8], words: &mut [u32]) -> usize
 // The most bytes that are read of a file.
 const MOST_FILE_BYTES: usize = 8192;
 
+// Reads until the bytes that are lent are full, the file ends or a read fails, and answers how many were read.
+fn read_full(file: &mut File, bytes: &mut [u8]) -> usize
+    ensures { result ≤ length bytes.new }
+{
+    let mut done = 0;
+    while done < bytes.len() {
+        let n = match file.read(&mut bytes[done..]) {
+            Ok(count) => count,
+            Err(_) => 0,
+        };
+        if n == 0 {
+            break;
+        }
+        done += n;
+    }
+    done
+}
+
 // Reads the words of a file's text.
-fn read_words(path: &[u8], words: &mut [u32]) -> usize
+fn read_words(rt: &HostRuntime, path: &[u8], words: &mut [u32]) -> usize
     ensures { result ≤ length words.old }
 {
-    let fd = os::open_read(path);
-    if fd < 0 {
-        os::fail(path);
-        return 0;
+    match input::open(rt, path) {
+        Ok(mut file) => {
+            let mut bytes = [0u8; MOST_FILE_BYTES];
+            let n = read_full(&mut file, &mut bytes);
+            words_in(&bytes[..n], words)
+        }
+        Err(why) => {
+            console::fail(rt, path, why);
+            0
+        }
     }
-    let mut bytes = [0u8; MOST_FILE_BYTES];
-    let n = io::read_full(fd, &mut bytes);
-    libc::close(fd);
-    words_in(&bytes[..n], words)
 }
 
 // Maps a job.
-fn map(path: &[u8]) {
+fn map(rt: &HostRuntime, path: &[u8]) {
     let mut job = [0u32; KEPT_WORDS];
-    let kept = read_words(path, &mut job);
-    console::print(b"map ");
-    console::print(path);
-    console::print(b"\n");
-    said::map(&job[..kept], 4 * kept);
+    let kept = read_words(rt, path, &mut job);
+    console::print(rt, b"map ");
+    console::print(rt, path);
+    console::print(rt, b"\n");
+    said::map(rt, &job[..kept], 4 * kept);
 }
 
 // Checks a mapping against its job.
-fn check(path: &[u8], mapping_path: &[u8]) {
+fn check(rt: &HostRuntime, path: &[u8], mapping_path: &[u8]) {
     let mut job = [0u32; KEPT_WORDS];
-    let kept = read_words(path, &mut job);
+    let kept = read_words(rt, path, &mut job);
     let mut mapping = [0u32; KEPT_WORDS];
-    let bound = read_words(mapping_path, &mut mapping);
-    console::print(b"check ");
-    console::print(path);
-    console::print(b" ");
-    console::print(mapping_path);
-    console::print(b"\n");
-    said::check(&job[..kept], 4 * kept, &mapping[..bound], 4 * bound);
+    let bound = read_words(rt, mapping_path, &mut mapping);
+    console::print(rt, b"check ");
+    console::print(rt, path);
+    console::print(rt, b" ");
+    console::print(rt, mapping_path);
+    console::print(rt, b"\n");
+    said::check(rt, &job[..kept], 4 * kept, &mapping[..bound], 4 * bound);
 }
 
-fn main() {
-    map(b"printed.job");
-    check(b"printed.job", b"printed.mapping");
-    check(b"printed.job", b"published_lt.mapping");
-    map(b"published_lt.job");
-    map(b"board.job");
-    check(b"board.job", b"board.mapping");
-    map(b"book.job");
-    check(b"book.job", b"book.mapping");
-    console::print(b"map inputs\n");
-    cases::map_inputs();
-    console::print(b"check inputs\n");
-    cases::check_inputs();
+fn main(rt: HostRuntime) {
+    map(&rt, b"printed.job");
+    check(&rt, b"printed.job", b"printed.mapping");
+    check(&rt, b"printed.job", b"published_lt.mapping");
+    map(&rt, b"published_lt.job");
+    map(&rt, b"board.job");
+    check(&rt, b"board.job", b"board.mapping");
+    map(&rt, b"book.job");
+    check(&rt, b"book.job", b"book.mapping");
+    console::print(&rt, b"map inputs\n");
+    cases::map_inputs(&rt);
+    console::print(&rt, b"check inputs\n");
+    cases::check_inputs(&rt);
 }

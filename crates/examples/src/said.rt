@@ -28,31 +28,37 @@ fn read_of(bytes: usize, words: usize) -> Input
     }
 }
 
-pub fn map(job: &[u32], bytes: usize) {
+pub fn map(rt: &HostRuntime, job: &[u32], bytes: usize) {
     let input = read_of(bytes, job.len());
     let kept = input.kept;
     let mut lent = [0u32; MOST_MAPPING_WORDS];
     let mut out = [0u8; MOST_TEXT_BYTES];
     let said = map_answers::map_input(&job[..kept], input, &mut lent, &mut out);
     let end = said.bytes;
-    console::print(&out[..end]);
+    console::print(rt, &out[..end]);
 }
 
-pub fn open(job: &[u32], bytes: usize) {
+pub fn open(rt: &HostRuntime, job: &[u32], bytes: usize) {
     let input = read_of(bytes, job.len());
     let kept = input.kept;
     let mut out = [0u8; bench_answers::MOST_TEXT_BYTES];
     let opened = bench_answers::open(&job[..kept], input, &mut out);
     let end = opened.bytes;
-    console::print(&out[..end]);
+    console::print(rt, &out[..end]);
 }
 
-pub fn check(job: &[u32], job_bytes: usize, mapping: &[u32], mapping_bytes: usize) {
+pub fn check(
+    rt: &HostRuntime,
+    job: &[u32],
+    job_bytes: usize,
+    mapping: &[u32],
+    mapping_bytes: usize,
+) {
     let first = read_of(job_bytes, job.len());
     let second = read_of(mapping_bytes, mapping.len());
     let kept = first.kept;
     let bound = second.kept;
     let mut out = [0u8; MOST_LINE_BYTES];
     let end = check_answers::check_inputs(&job[..kept], first, &mapping[..bound], second, &mut out);
-    console::print(&out[..end]);
+    console::print(rt, &out[..end]);
 }

@@ -1,4 +1,6 @@
 // Files of words: the words of a file's bytes, and the bytes of a word.
+#![tactic(auto)]
+
 ghost use Rattle.std.specs.Prelude.{◌≡◌, ◌/◌, ◌≤◌, length};
 ghost use Rattle.std.proofs.lemmas.List.Edits.{sets};
 ghost use Rattle.files.specs.Files as F;

@@ -1,6 +1,5 @@
 -- Document 01, refusals 7 and 8: "A mapping fits its job if neither 7 nor 8 holds".
-use Rattle.std.specs.Prelude.{ℕ, ◌+◌, not, List, [], ◌∷◌, eqb}
-use Rattle.words.specs.Choice.{if◌then◌else◌}
+use Rattle.std.specs.Prelude.{ℕ, ◌+◌, not, List, [], ◌∷◌, eqb, if◌then◌else◌}
 use Rattle.words.specs.Paper.{refusal}
 use Rattle.reader.specs.Starts.{bindings_start}
 use Rattle.reader.specs.declared.Mapping.{Mapping}

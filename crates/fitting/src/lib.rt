@@ -1,4 +1,6 @@
 // A job and a mapping that are read together, and whether the mapping fits the job: refusals 1 to 6 of either, then 7 and 8.
+#![tactic(auto)]
+
 ghost use Rattle.std.specs.Prelude.{◌≡◌};
 ghost use Rattle.reader.specs.Starts.{bindings_start};
 ghost use Rattle.table.specs.Parts as T;
@@ -9,7 +11,7 @@ use reader::{Job, JobRead, Mapping, MappingRead};
 use words::Refusal;
 
 // A job and a mapping that were read, or the first refusal, 1 to 6, of the one or the other.
-#[derive(Drop)]
+#[derive(Clone, Copy)]
 pub enum Pair {
     Read(Job, Mapping),
     JobRefused(Refusal),
@@ -17,7 +19,7 @@ pub enum Pair {
 }
 
 // Whether a mapping fits its job, or the first refusal, 7 or 8.
-#[derive(Drop)]
+#[derive(Clone, Copy)]
 pub enum Fit {
     Fits,
     Misfit(Refusal),

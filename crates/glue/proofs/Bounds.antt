@@ -8,7 +8,7 @@ use native.Mathlib.Nat.{mul-le-mul, add-le-add, le_refl, le_trans}
 use native.Mathlib.Omega.{arith}
 use lib.Dec.{leb}
 use lib.ListN.{length}
-use Rattle.words.specs.Choice.{if◌then◌else◌}
+use Rattle.std.specs.Prelude.{if◌then◌else◌}
 use Rattle.words.specs.declared.Prices.{Prices}
 use Rattle.bits.specs.Bits.{num, bit}
 use Rattle.glue.specs.Glue.{InUse, some, distinct, steps, wirings, complements, carry_in, main_output, carry_out, code_price, codes_count, comparison, comparison_codes, scratch, count_of, glue, in_use, wiring_codes, carry_codes, output_codes, minterms, NOT-SI0, NOT-SI1, NOT-SICIN, NOT-TO0, NOT-TOCOUT}

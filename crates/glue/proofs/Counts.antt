@@ -12,7 +12,7 @@ use lib.Count.{ones, ones_step}
 use lib.Dec.{eqb}
 use lib.ListN.{length, get_or}
 use lib.Pow.{pow_pos, shr-shr, mod-mod-pow, field as cut-Shr}
-use Rattle.words.specs.Choice.{if◌then◌else◌}
+use Rattle.std.specs.Prelude.{if◌then◌else◌}
 use Rattle.words.specs.declared.Prices.{Prices}
 use Rattle.bits.specs.Bits.{num, bit}
 use Rattle.bits.specs.Asked.{Width}

@@ -1,6 +1,5 @@
 -- Document 01, "Glue count". The words are rules or bindings: only their fields matter.
-use Rattle.std.specs.Prelude.{ℕ, ◌+◌, ◌-◌, ◌*◌, Bool, false, not, ◌&&◌, ◌||◌, List, [], ◌∷◌, eqb, leb, get_or}
-use Rattle.words.specs.Choice.{if◌then◌else◌}
+use Rattle.std.specs.Prelude.{ℕ, ◌+◌, ◌-◌, ◌*◌, Bool, false, not, ◌&&◌, ◌||◌, List, [], ◌∷◌, eqb, leb, get_or, if◌then◌else◌}
 use Rattle.words.specs.declared.Prices.{Prices}
 use Rattle.bits.specs.Bits.{num, bit}
 use Rattle.recipe.specs.Fields.{from_scratch, vector_of, fields_of}

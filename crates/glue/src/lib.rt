@@ -1,6 +1,7 @@
 // What the lines of the glue count are made of: codes counted, amounts of pieces, and the prices of the comparison codes.
-ghost use Rattle.std.specs.Prelude.{◌≡◌, ◌+◌, ◌*◌, ◌≤◌, ◌<◌};
-ghost use Rattle.words.specs.Choice.{if◌then◌else◌};
+#![tactic(auto)]
+
+ghost use Rattle.std.specs.Prelude.{◌≡◌, ◌+◌, ◌*◌, ◌≤◌, ◌<◌, if◌then◌else◌};
 ghost use Rattle.bits.specs.Bits as B;
 ghost use Rattle.bits.specs.Asked as Q;
 ghost use Rattle.glue.specs.Glue as G;

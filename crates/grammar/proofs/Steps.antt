@@ -6,7 +6,7 @@ use native.Mathlib.Nat.{div-one}
 use lib.Dec.{eqb, ltb}
 use lib.Bits.{bit_and, and_mask}
 use borrow.Author.Tests.{eq-eqb, ne_eqb, not-true, not-false}
-use Rattle.words.specs.Choice.{if◌then◌else◌}
+use Rattle.std.specs.Prelude.{if◌then◌else◌}
 use Rattle.words.specs.Field.{kind_of, content_of, source_function, target_function}
 use Rattle.words.specs.Kinds.{HEADER, PRICES, SOURCE, TARGET, RULE, BINDING, GLUE, is_recipe}
 use Rattle.words.specs.Paper.{no_refusal}
@@ -48,17 +48,17 @@ module _ (file : File) (w k c : ℕ) (ek : k ≡ kind_of w) (ec : c ≡ content_
     prices_fit_lem h = rw (is_not w k ek no1, is w k ek h) (ap (λ (x : ℕ). ltb x (2 ^ 24)) ec)
 
     module _ (no2 : k ≡ PRICES → ⊥) where
-      pub source_fits : (r : Bool) → k ≡ SOURCE → r ≡ is_function c → r ≡ fits file w
+      pub source_fits_lem : (r : Bool) → k ≡ SOURCE → r ≡ is_function c → r ≡ fits file w
       unfolding fits
       source_fits_lem r h er = rw (is_not w k ek no1, is_not w k ek no2, is w k ek h) (er ∙ ap is_function ec)
 
       module _ (no3 : k ≡ SOURCE → ⊥) where
-        pub target_fits : (r : Bool) → k ≡ TARGET → r ≡ is_function c → r ≡ fits file w
+        pub target_fits_lem : (r : Bool) → k ≡ TARGET → r ≡ is_function c → r ≡ fits file w
         unfolding fits
         target_fits_lem r h er = rw (is_not w k ek no1, is_not w k ek no2, is_not w k ek no3, is w k ek h) (er ∙ ap is_function ec)
 
         module _ (no4 : k ≡ TARGET → ⊥) where
-          pub glue_fits : k ≡ GLUE → true ≡ fits file w
+          pub glue_fits_lem : k ≡ GLUE → true ≡ fits file w
           unfolding fits
           glue_fits_lem h = rw (is_not w k ek no1, is_not w k ek no2, is_not w k ek no3, is_not w k ek no4, is w k ek h) refl
 

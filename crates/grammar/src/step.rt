@@ -10,14 +10,14 @@ use words::{
 };
 
 // What one word gives: the next state, or the number of its refusal.
-#[derive(Drop)]
+#[derive(Clone, Copy)]
 pub enum Step {
     Next(State),
     Bad(u32),
 }
 
 // What all of them give.
-#[derive(Drop)]
+#[derive(Clone, Copy)]
 pub enum Reading {
     Passed(State),
     Stopped(Refusal),

@@ -7,19 +7,18 @@ use native.Mathlib.Nat.{zero-add}
 use native.Mathlib.Omega.{arith}
 use borrow.Author.Tests.{eqb-false, ltb-true, ltb-false}
 use lib.Dec.{eqb, ltb}
-use lib.IntN.{ℤ, pos, negsuc}
+use lib.IntN.{ℤ, pos, negsuc, nat_abs}
 use lib.ListN.{length, take, drop, length-append, length-take}
 use lib.Seq.{sets, sets-eq, take-nil, take_all, length-take-le, take-append-le, take-append-add, take-append_seam}
 use lib.Signed.{lt_z}
 use mir.Syntax.{w64}
 use mir.Val.{SFits, to_z, of_z}
 use mir.Facts.{to_z-of_z}
-use Rattle.io.specs.Counts.{clamp_len}
 use Rattle.words.proofs.Choices.{either}
 use Rattle.words.proofs.Copies.{sets-append}
 use Rattle.files.specs.Files.{words_of}
 use Rattle.input.specs.Read.{kept_words, kept_bytes, least, input_of, Read}
-use Rattle.input.specs.Kept.{Brings, Keeps, progress_of, brought}
+use Rattle.input.specs.Kept.{Brings, Keeps, clamp_len, progress_of, brought}
 use Rattle.input.specs.declared.Input.{Input}
 use Rattle.input.specs.declared.Progress.{Progress}
 
@@ -38,6 +37,13 @@ brought-of : (z : ℤ) (n size at : ℕ) → lt_z z (pos 0) ≡ false → n ≡ 
 brought-of (pos k) n size at e q = ap (λ (m : ℕ). record { bytes = at + m; ended = eqb m 0; failed = false }) q
 brought-of (negsuc k) n size at e q = absurd (true≢false e)
 
+least_of : (z : ℤ) (size : ℕ) → lt_z z (pos 0) ≡ false → least (nat_abs z) size ≡ clamp_len z size
+least_of (pos k) size e =
+    either (λ (m : ℕ). m ≡ clamp_len (pos k) size) (ltb k size) {x = k} {y = size}
+    (λ q. let h = ltb-true k size q in omega arith)
+    (λ q. let h = ltb-false k size q in omega arith)
+least_of (negsuc k) size e = absurd (true≢false e)
+
 module _ (z : ℤ) (at : ℕ) (f : SFits w64 z) where
   sign_of : (b : Bool) → lt_z (to_z w64 (of_z w64 z)) (pos 0) ≡ b → lt_z z (pos 0) ≡ b
   sign_of b e = subst (λ (x : ℤ). lt_z x (pos 0) ≡ b) (to_z-of_z f) e
@@ -50,18 +56,19 @@ module _ (z : ℤ) (at : ℕ) (f : SFits w64 z) where
       → kept ≡ sets kept at (take (length kept - at) (brought z chunk))
   none_brought chunk kept e = none_of z chunk kept at (sign_of true e)
 
-  count_of : (n size : ℕ) → n ≡ clamp_len (to_z w64 (of_z w64 z)) size → n ≡ clamp_len z size
-  count_of n size q = q ∙ ap (λ (x : ℤ). clamp_len x size) (to_z-of_z f)
+  count_of : (n size : ℕ) → lt_z (to_z w64 (of_z w64 z)) (pos 0) ≡ false → n ≡ least (nat_abs (to_z w64 (of_z w64 z))) size → n ≡ clamp_len z size
+  count_of n size e q = q ∙ ap (λ (x : ℤ). least (nat_abs x) size) (to_z-of_z f) ∙ least_of z size (sign_of false e)
 
-  pub read_brought : (n size : ℕ) → lt_z (to_z w64 (of_z w64 z)) (pos 0) ≡ false → n ≡ clamp_len (to_z w64 (of_z w64 z)) size
+  pub read_brought : (n size : ℕ) → lt_z (to_z w64 (of_z w64 z)) (pos 0) ≡ false → n ≡ least (nat_abs (to_z w64 (of_z w64 z))) size
       → record { bytes = at + n; ended = eqb n 0; failed = false } ≡ progress_of z size at
-  read_brought n size e q = brought-of z n size at (sign_of false e) (count_of n size q)
+  read_brought n size e q = brought-of z n size at (sign_of false e) (count_of n size e q)
 
-  pub kept_brought : (n : ℕ) (chunk kept after : List ℕ) → n ≡ clamp_len (to_z w64 (of_z w64 z)) (length chunk)
+  pub kept_brought : (n : ℕ) (chunk kept after : List ℕ) → lt_z (to_z w64 (of_z w64 z)) (pos 0) ≡ false
+      → n ≡ least (nat_abs (to_z w64 (of_z w64 z))) (length chunk)
       → after ≡ sets kept at (take (length kept - at) (take n chunk))
       → after ≡ sets kept at (take (length kept - at) (brought z chunk))
-  kept_brought n chunk kept after q k =
-      k ∙ ap (λ (m : ℕ). sets kept at (take (length kept - at) (take m chunk))) (count_of n (length chunk) q)
+  kept_brought n chunk kept after e q k =
+      k ∙ ap (λ (m : ℕ). sets kept at (take (length kept - at) (take m chunk))) (count_of n (length chunk) e q)
 
 -- ---- a read
 

@@ -1,7 +1,6 @@
 -- What reading hands on from one read to the next. Nobody has to believe this: Read.antt says what is read in the end.
-use Rattle.std.specs.Prelude.{ℕ, ◌+◌, ◌-◌, ◌<◌, ◌≡◌, true, false, List, eqb, ℤ, pos, negsuc, length, take}
+use Rattle.std.specs.Prelude.{ℕ, ◌+◌, ◌-◌, ◌<◌, ◌≡◌, true, false, List, eqb, ℤ, pos, negsuc, min, length, take}
 use Rattle.std.proofs.lemmas.List.Edits.{sets}
-use Rattle.io.specs.Counts.{clamp_len}
 use Rattle.input.specs.declared.Progress.{Progress}
 
 -- the bytes that a read brings are kept behind those before, as far as there is room
@@ -19,6 +18,11 @@ pub record Keeps (kept after : List ℕ) (bytes : ℕ) : Type 0 where
 
 -- ---- one read after so many bytes, into a chunk of a size: the system answers a negative number if it fails, 0 at the end of the file,
 -- and else how many bytes of the chunk it brings
+
+-- the answer, brought into 0 .. most
+abbrev pub clamp_len : ℤ → ℕ → ℕ
+clamp_len (pos n) most = min n most
+clamp_len (negsuc n) most = 0
 
 abbrev pub progress_of : ℤ → ℕ → ℕ → Progress
 progress_of (pos n) size at =

@@ -1,8 +1,7 @@
 -- What is said of a file that was read: "a last word cut short is 2 at its index". Which bytes a file has, and whether a read failed, is
 -- the system's choice; all else follows from it.
-use Rattle.std.specs.Prelude.{ℕ, ◌+◌, ◌*◌, ◌/◌, ◌%◌, ◌≡◌, Bool, not, List, eqb, ltb, length, take}
+use Rattle.std.specs.Prelude.{ℕ, ◌+◌, ◌*◌, ◌/◌, ◌%◌, ◌≡◌, Bool, not, List, eqb, ltb, length, take, if◌then◌else◌}
 use Rattle.std.proofs.lemmas.List.Edits.{sets}
-use Rattle.words.specs.Choice.{if◌then◌else◌}
 use Rattle.sequence.specs.Limits.{most_job_words}
 use Rattle.files.specs.Files.{words_of}
 use Rattle.input.specs.declared.Input.{Input}

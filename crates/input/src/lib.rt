@@ -1,9 +1,15 @@
 // Words read to the end of a file. Of a file longer than any job the first words are kept, one more than a job can have.
-ghost use Rattle.std.specs.Prelude.{◌≡◌, ◌-◌, ◌^◌, ◌≤◌, ◌<◌, length, take};
+#![tactic(auto)]
+
+ghost use Rattle.std.specs.Prelude.{◌≡◌, ◌-◌, ◌^◌, ◌≤◌, ◌<◌, ◌≤ℤ◌, pos, length, take};
 ghost use Rattle.std.proofs.lemmas.List.Edits.{sets};
 ghost use Rattle.files.specs.Files as F;
 ghost use Rattle.input.specs.Read as R;
 ghost use Rattle.input.specs.Kept as K;
+
+use std::fs::File;
+use std::io::{Error, ErrorKind, Read};
+use std::str;
 
 // The most words that are kept, and their bytes.
 pub const KEPT_WORDS: usize = sequence::MOST_JOB_WORDS + 1;
@@ -14,7 +20,7 @@ const KEPT_BYTES: usize = 4 * KEPT_WORDS;
 const MOST: usize = 4611686018427387904;
 
 // What was read: how many words were kept, the whole words of the file, whether a last word is cut short, and whether a read failed.
-#[derive(Drop)]
+#[derive(Clone, Copy)]
 pub struct Input {
     pub kept: usize,
     pub whole: usize,
@@ -23,7 +29,7 @@ pub struct Input {
 }
 
 // How far reading has come: the bytes so far, whether the file has ended, and whether a read failed.
-#[derive(Drop)]
+#[derive(Clone, Copy)]
 struct Progress {
     bytes: usize,
     ended: bool,
@@ -64,7 +70,7 @@ fn take_read(got: isize, chunk: &[u8], kept: &mut [u8], at: usize) -> Progress
             failed: true,
         };
     }
-    let n = io::count(got, chunk);
+    let n = least(got as usize, chunk.len());
     keep(&chunk[..n], kept, at);
     Progress {
         bytes: at + n,
@@ -73,18 +79,38 @@ fn take_read(got: isize, chunk: &[u8], kept: &mut [u8], at: usize) -> Progress
     }
 }
 
+// Reads into a chunk, and answers how many bytes came; or a negative number if the read failed, which it says by the reader's name.
+fn read_chunk<S: Read>(rt: &HostRuntime, reader: &mut S, name: &[u8], chunk: &mut [u8]) -> isize
+    requires { length chunk.old ≤ 4096 }
+    ensures { result ≤ℤ pos (length chunk.old) }
+{
+    match reader.read(chunk) {
+        Ok(bytes) => bytes as isize,
+        Err(why) => {
+            console::fail(rt, name, why);
+            -1
+        }
+    }
+}
+
 // Reads once.
-fn read_some(fd: i32, kept: &mut [u8], at: usize) -> Progress
+fn read_some<S: Read>(
+    rt: &HostRuntime,
+    reader: &mut S,
+    name: &[u8],
+    kept: &mut [u8],
+    at: usize,
+) -> Progress
     requires { at < 2 ^ 62 }
     ensures { K.Brings kept.old at kept.new result }
 {
     let mut chunk = [0u8; 4096];
-    let got = libc::read(fd, &mut chunk);
+    let got = read_chunk(rt, reader, name, &mut chunk);
     take_read(got, &chunk, kept, at)
 }
 
 // Reads to the end of the file, or until a read fails.
-fn read_bytes(fd: i32, kept: &mut [u8]) -> Progress
+fn read_bytes<S: Read>(rt: &HostRuntime, reader: &mut S, name: &[u8], kept: &mut [u8]) -> Progress
     ensures { K.Keeps kept.old kept.new result.bytes }
 {
     let mut now = Progress {
@@ -94,7 +120,7 @@ fn read_bytes(fd: i32, kept: &mut [u8]) -> Progress
     };
     let mut bytes = 0;
     while bytes < MOST {
-        let next = read_some(fd, kept, bytes);
+        let next = read_some(rt, reader, name, kept, bytes);
         now = next;
         if next.ended {
             break;
@@ -120,38 +146,47 @@ fn words_read(bytes: &[u8], read: Progress, words: &mut [u32]) -> Input
     }
 }
 
-// Reads words from a file descriptor.
-pub fn read_words(fd: i32, words: &mut [u32]) -> Input
+// Reads words to the end of a reader. A read that fails is said on standard error, by the reader's name.
+pub fn read_words<S: Read>(
+    rt: &HostRuntime,
+    reader: &mut S,
+    name: &[u8],
+    words: &mut [u32],
+) -> Input
     requires { R.kept_words ≤ length words.old }
     ensures few { result.kept ≤ R.kept_words }
     ensures read { R.Read words.old words.new result }
 {
     let mut bytes = [0u8; KEPT_BYTES];
-    let read = read_bytes(fd, &mut bytes);
+    let read = read_bytes(rt, reader, name, &mut bytes);
     words_read(&bytes, read, words)
 }
 
+// Opens a file for reading. Its name is text.
+pub fn open(rt: &HostRuntime, path: &[u8]) -> Result<File, Error> {
+    match str::from_utf8(path) {
+        Ok(name) => File::open(rt, name),
+        Err(_) => Err(Error::from(ErrorKind::InvalidFilename)),
+    }
+}
+
 // Reads the file that an argument names, or says why it cannot.
-pub fn read_file(argument: usize, words: &mut [u32]) -> Input
+pub fn read_file(rt: &HostRuntime, argument: usize, words: &mut [u32]) -> Input
     requires { R.kept_words ≤ length words.old }
     ensures { result.kept ≤ R.kept_words }
 {
-    let mut path = io::buffer();
-    let length = os::arg(argument, &mut path);
-    let fd = os::open_read(&path[..length]);
-    if fd < 0 {
-        os::fail(&path[..length]);
-        return Input {
-            kept: 0,
-            whole: 0,
-            cut: false,
-            failed: true,
-        };
+    let mut path = [0u8; arguments::MOST_BYTES];
+    let length = arguments::put_argument(rt, argument, &mut path);
+    match open(rt, &path[..length]) {
+        Ok(mut file) => read_words(rt, &mut file, &path[..length], words),
+        Err(why) => {
+            console::fail(rt, &path[..length], why);
+            Input {
+                kept: 0,
+                whole: 0,
+                cut: false,
+                failed: true,
+            }
+        }
     }
-    let input = read_words(fd, words);
-    if input.failed {
-        os::fail(&path[..length]);
-    }
-    libc::close(fd);
-    input
 }

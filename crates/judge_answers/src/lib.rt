@@ -1,4 +1,6 @@
 // What judge_rule says of a word: its judgement at a width, or at every width, as a line put into lent bytes.
+#![tactic(auto)]
+
 ghost use Rattle.std.specs.Prelude.{◌≤◌, length};
 ghost use Rattle.text.specs.Text as P;
 ghost use Rattle.lines.specs.Lines as L;
@@ -12,7 +14,7 @@ use verdict::{Judgement, Verdict};
 use words::{Refusal, Witness};
 
 // The answer at every width: right at all, wrong with the least width at which it is and operands there, or refused.
-#[derive(Drop)]
+#[derive(Clone, Copy)]
 pub enum Everywhere {
     Right,
     Wrong(u32, Witness),

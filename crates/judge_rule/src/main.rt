@@ -1,5 +1,7 @@
 // Judges rules and bindings: judge_rule WIDTH, words as eight hexadecimal digits on standard input. Each word's line is printed as soon as
 // the word has ended.
+#![tactic(auto)]
+
 ghost use Rattle.std.specs.Prelude.{◌≤◌, length};
 ghost use Rattle.lines.specs.Lines.{most_line_bytes};
 ghost use Rattle.judge_rule.specs.Asked.{SaysAsked};
@@ -22,22 +24,22 @@ fn put_line(word: u32, widths: Widths, out: &mut [u8]) -> usize
 }
 
 // Prints a word's line, and answers whether it could.
-fn judge_word(word: u32, widths: Widths) -> bool {
+fn judge_word(rt: &HostRuntime, word: u32, widths: Widths) -> bool {
     let mut out = [0u8; MOST_LINE_BYTES];
     let end = put_line(word, widths, &mut out);
-    console::print(&out[..end])
+    console::print(rt, &out[..end])
 }
 
 // Judges each word, until the text is over or a line cannot be printed.
-fn judge_all(widths: Widths) {
+fn judge_all(rt: &HostRuntime, widths: Widths) {
     let mut text = word_text::unread();
     loop {
-        let taken = text.next(b"judge_rule");
+        let taken = text.next(rt, b"judge_rule");
         let found = taken.found;
         let Found::Word(word) = found else {
             return;
         };
-        if !judge_word(word, widths) {
+        if !judge_word(rt, word, widths) {
             return;
         }
         let rest = taken.text;
@@ -46,12 +48,12 @@ fn judge_all(widths: Widths) {
 }
 
 // The widths that are asked for.
-fn asked_widths() -> Widths {
-    if os::arg_count() != 2 {
+fn asked_widths(rt: &HostRuntime) -> Widths {
+    if arguments::count(rt) != 2 {
         return Widths::Neither;
     }
-    let mut argument = io::buffer();
-    let length = os::arg(1, &mut argument);
+    let mut argument = [0u8; arguments::MOST_BYTES];
+    let length = arguments::put_argument(rt, 1, &mut argument);
     arguments::widths_in(&argument[..length])
 }
 
@@ -59,9 +61,10 @@ fn asked_widths() -> Widths {
 const USAGE: [u8; 73] =
     *b"usage: judge_rule WIDTH < WORDS\nWIDTH is 1 to 64, or all for every width\n";
 
-fn help() {
-    console::print(&USAGE);
+fn help(rt: &HostRuntime) {
+    console::print(rt, &USAGE);
     console::print(
+        rt,
         b"\n\
         Prints a line for each rule or binding: RIGHT, WRONG and where it differs from its source function, or the refusal.\n\
         With all, WRONG comes with the least width at which it does. A word is eight hexadecimal digits. Spaces or line\n\
@@ -71,15 +74,15 @@ fn help() {
     );
 }
 
-fn main() {
-    if arguments::asks_help() {
-        help();
+fn main(rt: HostRuntime) {
+    if arguments::asks_help(&rt) {
+        help(&rt);
         return;
     }
-    let widths = asked_widths();
+    let widths = asked_widths(&rt);
     if let Widths::Neither = widths {
-        arguments::usage(&USAGE);
+        arguments::usage(&rt, &USAGE);
         return;
     }
-    judge_all(widths);
+    judge_all(&rt, widths);
 }

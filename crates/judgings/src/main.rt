@@ -1,4 +1,6 @@
 // Prints the lines of some words judged at every width, as judge_rule does with all.
+#![tactic(auto)]
+
 use lines::MOST_LINE_BYTES;
 
 // Right at every width; wrong at 1, at an output port and at the comparison; right at 1 and wrong at 2; refused with 2, 3, 5 and 6.
@@ -8,16 +10,16 @@ const WORDS: [u32; 13] = [
 ];
 
 // Prints the line of a word.
-fn print_line(word: u32) {
+fn print_line(rt: &HostRuntime, word: u32) {
     let mut out = [0u8; MOST_LINE_BYTES];
     let end = judge_answers::put_everywhere(word, &mut out);
-    console::print(&out[..end]);
+    console::print(rt, &out[..end]);
 }
 
-fn main() {
+fn main(rt: HostRuntime) {
     let mut i = 0;
     while i < 13 {
-        print_line(WORDS[i]);
+        print_line(&rt, WORDS[i]);
         i += 1;
     }
 }

@@ -1,6 +1,5 @@
 -- Refusals 3, 5 and 6 of a recipe word.
-use Rattle.std.specs.Prelude.{ℕ, Bool, false, not, ◌&&◌, ◌||◌, eqb, leb, ltb}
-use Rattle.words.specs.Choice.{if◌then◌else◌}
+use Rattle.std.specs.Prelude.{ℕ, Bool, false, not, ◌&&◌, ◌||◌, eqb, leb, ltb, if◌then◌else◌}
 use Rattle.words.specs.Field.{field}
 use Rattle.words.specs.Paper.{no_refusal}
 use Rattle.alu.specs.Function.{function_of, drives}

@@ -1,4 +1,6 @@
 // Refusals 3, 5 and 6 of a recipe word, in this order.
+#![tactic(auto)]
+
 ghost use Rattle.std.specs.Prelude.{◌≡◌};
 ghost use Rattle.layout.specs.Layout as L;
 

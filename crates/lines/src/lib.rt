@@ -1,4 +1,6 @@
 // The lines of refusals, put into lent bytes.
+#![tactic(auto)]
+
 ghost use Rattle.std.specs.Prelude.{◌+◌, ◌≤◌, length};
 ghost use Rattle.text.specs.Text as P;
 ghost use Rattle.lines.specs.Lines as L;

@@ -1,4 +1,6 @@
 // What is printed of a mapping: a line for each binding, and the glue count, put into lent bytes.
+#![tactic(auto)]
+
 ghost use Rattle.std.specs.Prelude.{◌+◌, ◌*◌, ◌≤◌, length};
 ghost use Rattle.text.specs.Text as P;
 ghost use Rattle.listing.specs.Listing as L;

@@ -1,7 +1,6 @@
 -- What map_job says of what it read: document 01, "prints, per binding, ..; then the count. A refusal prints only REFUSED, number and place
 -- in decimal; a last word cut short is 2 at its index, before all else." An input that could not be read is said to have failed.
-use Rattle.std.specs.Prelude.{ℕ, ◌≡◌, Bool, true, false, List, take}
-use Rattle.words.specs.Choice.{if◌then◌else◌}
+use Rattle.std.specs.Prelude.{ℕ, ◌≡◌, Bool, true, false, List, take, if◌then◌else◌}
 use Rattle.words.specs.Paper.{refusal}
 use Rattle.text.specs.Text.{Puts}
 use Rattle.listing.specs.Listing.{mapped_text}

@@ -1,7 +1,6 @@
 -- What map_job prints for the bytes of its standard input: "a last word cut short is 2 at its index, before all else"; else what the mapper
 -- answers to the words.
-use Rattle.std.specs.Prelude.{ℕ, ◌/◌, ◌%◌, not, List, eqb, length}
-use Rattle.words.specs.Choice.{if◌then◌else◌}
+use Rattle.std.specs.Prelude.{ℕ, ◌/◌, ◌%◌, not, List, eqb, length, if◌then◌else◌}
 use Rattle.words.specs.Paper.{refusal}
 use Rattle.files.specs.Files.{words_of}
 use Rattle.lines.specs.Lines.{refused_line}

@@ -1,4 +1,6 @@
 // What map_job says of what it read: the answer to its input, and its text, all lines of it, put into lent bytes.
+#![tactic(auto)]
+
 ghost use Rattle.std.specs.Prelude.{◌≡◌, ◌*◌, ◌≤◌, length};
 ghost use Rattle.text.specs.Text as P;
 ghost use Rattle.map_answers.specs.Answers as S;
@@ -13,7 +15,7 @@ pub const MOST_TEXT_BYTES: usize = listing::MOST_BINDING_BYTES * sequence::MOST_
     + lines::MOST_LINE_BYTES;
 
 // Whether the input could not be read, how many bytes of text were put, and how many words of a mapping were written.
-#[derive(Drop)]
+#[derive(Clone, Copy)]
 pub struct Said {
     pub failed: bool,
     pub bytes: usize,

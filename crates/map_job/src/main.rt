@@ -1,38 +1,39 @@
 // Reads a job's words on standard input and prints its mapping, or the refusal. With one argument it also writes the mapping's words
 // to the file of that name. What cannot be read or written is said on standard error.
-use libc::STDIN_FILENO;
+#![tactic(auto)]
+
 use map_answers::MOST_TEXT_BYTES;
 use sequence::MOST_MAPPING_WORDS;
 
 // Maps the job, and saves a mapping that was written, if a file is named for it.
-fn map() {
+fn map(rt: &HostRuntime) {
     let mut job = [0u32; input::KEPT_WORDS];
-    let input = input::read_words(STDIN_FILENO, &mut job);
+    let input = input::read_words(rt, &mut rt.stdin(), b"standard input", &mut job);
     let kept = input.kept;
     let mut lent = [0u32; MOST_MAPPING_WORDS];
     let mut out = [0u8; MOST_TEXT_BYTES];
     let said = map_answers::map_input(&job[..kept], input, &mut lent, &mut out);
     if said.failed {
-        os::fail(b"standard input");
         return;
     }
     let end = said.bytes;
-    console::print(&out[..end]);
+    console::print(rt, &out[..end]);
     let count = said.words;
     if count == 0 {
         return;
     }
-    if os::arg_count() == 2 {
-        saving::save(1, &lent[..count]);
+    if arguments::count(rt) == 2 {
+        saving::save(rt, 1, &lent[..count]);
     }
 }
 
 // How the program is called.
 const USAGE: [u8; 28] = *b"usage: map_job [FILE] < JOB\n";
 
-fn help() {
-    console::print(&USAGE);
+fn help(rt: &HostRuntime) {
+    console::print(rt, &USAGE);
     console::print(
+        rt,
         b"\n\
         Prints a line for each binding of the job's mapping, and its glue count; or the refusal. Writes the mapping's words to\n\
         FILE, if it is named. A job is words of four bytes, the lowest first, as pack_words makes them of text.\n\
@@ -41,14 +42,14 @@ fn help() {
     );
 }
 
-fn main() {
-    if arguments::asks_help() {
-        help();
+fn main(rt: HostRuntime) {
+    if arguments::asks_help(&rt) {
+        help(&rt);
         return;
     }
-    if 2 < os::arg_count() {
-        arguments::usage(&USAGE);
+    if 2 < arguments::count(&rt) {
+        arguments::usage(&rt, &USAGE);
         return;
     }
-    map();
+    map(&rt);
 }

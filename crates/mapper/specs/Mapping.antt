@@ -1,6 +1,5 @@
 -- What the mapper answers and writes: the refusals 1 to 6 of the job first, then 12, and 23 last.
-use Rattle.std.specs.Prelude.{ℕ, List, [], ◌∷◌, ◌++◌, length}
-use Rattle.words.specs.Choice.{if◌then◌else◌}
+use Rattle.std.specs.Prelude.{ℕ, List, [], ◌∷◌, ◌++◌, length, if◌then◌else◌}
 use Rattle.words.specs.Paper.{Paper, refusal, accepted, told}
 use Rattle.book.specs.Book.{book}
 use Rattle.reader.specs.Job.{job_of}

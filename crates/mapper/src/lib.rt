@@ -1,4 +1,6 @@
 // The mapper: for each source of a job the rule of document 01's choice, written as a mapping into lent words.
+#![tactic(auto)]
+
 ghost use Rattle.std.specs.Prelude.{◌≡◌, take};
 ghost use Rattle.reader.specs.Job as J;
 ghost use Rattle.writer.specs.Write as W;
@@ -12,7 +14,7 @@ use words::Refusal;
 use writer::Written;
 
 // The number of words written, or the refusal: the job's 1 to 6, 12, then 23.
-#[derive(Drop)]
+#[derive(Clone, Copy)]
 pub enum Answer {
     Mapping(usize),
     Refused(Refusal),

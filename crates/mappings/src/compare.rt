@@ -22,7 +22,7 @@ pub const JOBS: [u32; 6] = [1600, 800, 40, 400, 80, 400];
 pub const BOOK_JOBS: [u32; 6] = [400, 200, 200, 100, 80, 200];
 
 // The number of the mapper's refusal, 0 for none, and whether the second account answers and writes the same.
-#[derive(Drop)]
+#[derive(Clone, Copy)]
 struct Outcome {
     number: u32,
     same: bool,
@@ -76,17 +76,17 @@ fn outcome_of(job: &[u32], size: usize) -> Outcome {
 }
 
 // A job more. The first that differs is written out. The numbers 0, 1 to 6, 12 and 23 count as 0, 1, 2 and 4.
-fn counted(all: Numbers, job: &[u32], outcome: Outcome) -> Numbers {
+fn counted(rt: &HostRuntime, all: Numbers, job: &[u32], outcome: Outcome) -> Numbers {
     let tally = all.tally;
     if !outcome.same & (tally.differ == 0) {
-        say::words(b"differs:", job);
-        say::text(b"\n");
+        say::words(rt, b"differs:", job);
+        say::text(rt, b"\n");
     }
     noted(all, (outcome.number % 32 + 5) / 6, outcome.same)
 }
 
 // Random jobs of a shape at some widths, with a bit of the header set or none. Half of them are lent more words than any mapping needs.
-fn random_jobs(shape: u32, widths: &[u32], jobs: &[u32], asked: u32) -> Numbers {
+fn random_jobs(rt: &HostRuntime, shape: u32, widths: &[u32], jobs: &[u32], asked: u32) -> Numbers {
     let count = at(jobs, shape as usize);
     let mut words = [0u32; 569];
     let mut all = no_numbers();
@@ -97,7 +97,7 @@ fn random_jobs(shape: u32, widths: &[u32], jobs: &[u32], asked: u32) -> Numbers 
         let size = put_job(&mut words, shape, n, random);
         put(&mut words, 0, 0x1000_0000 | n | asked);
         let job = first(&words, size);
-        let more = counted(all, job, outcome_of(job, (random % 64) as usize));
+        let more = counted(rt, all, job, outcome_of(job, (random % 64) as usize));
         all = more;
         random = next(random);
         i += 1;
@@ -106,15 +106,16 @@ fn random_jobs(shape: u32, widths: &[u32], jobs: &[u32], asked: u32) -> Numbers 
 }
 
 // A line for each shape.
-pub fn report_random(name: &[u8], widths: &[u32], jobs: &[u32], asked: u32) {
+pub fn report_random(rt: &HostRuntime, name: &[u8], widths: &[u32], jobs: &[u32], asked: u32) {
     let mut shape: u32 = 0;
     while shape < 6 {
-        let all = random_jobs(shape, widths, jobs, asked);
+        let all = random_jobs(rt, shape, widths, jobs, asked);
         let tally = all.tally;
         let by = all.by;
-        say::text(name);
-        say::text(name_at(&NAMES, shape as usize));
+        say::text(rt, name);
+        say::text(rt, name_at(&NAMES, shape as usize));
         say::line(
+            rt,
             b": # jobs, # mapped, # refused 12, # refused 23, # refused 1 to 6, # differ\n",
             &[tally.compared, by[0], by[2], by[4], by[1], tally.differ],
         );

@@ -13,12 +13,12 @@ const DIGITS: [u8; 16] = [
 ];
 
 // Eight capital hexadecimal digits, or that the word was not touched.
-fn say_word(word: u32) {
+fn say_word(rt: &HostRuntime, word: u32) {
     if word == LENT {
-        say::text(b" -");
+        say::text(rt, b" -");
         return;
     }
-    say::text(b" ");
+    say::text(rt, b" ");
     let mut text = [0u8; 8];
     let mut rest = word;
     let mut place = 8;
@@ -28,44 +28,44 @@ fn say_word(word: u32) {
         text[place] = DIGITS[digit];
         rest = rest / 16;
     }
-    say::text(&text);
+    say::text(rt, &text);
 }
 
-fn say_words(words: &[u32]) {
+fn say_words(rt: &HostRuntime, words: &[u32]) {
     let mut i = 0;
     while i < words.len() {
-        say_word(at(words, i));
+        say_word(rt, at(words, i));
         i += 1;
     }
 }
 
-fn say_answer(answer: Answer) {
+fn say_answer(rt: &HostRuntime, answer: Answer) {
     match answer {
         Answer::Mapping(n) => {
-            say::count(b": mapping of ", n as u64);
-            say::text(b" words");
+            say::count(rt, b": mapping of ", n as u64);
+            say::text(rt, b" words");
         }
         Answer::Refused(refusal) => {
-            say::count(b": refused ", refusal.number as u64);
-            say::count(b" ", refusal.place as u64);
+            say::count(rt, b": refused ", refusal.number as u64);
+            say::count(rt, b" ", refusal.place as u64);
         }
     }
 }
 
 // Maps a job into lent words, and shows what they hold then.
-fn mapped_into(name: &[u8], job: &[u32], lent: &mut [u32]) {
+fn mapped_into(rt: &HostRuntime, name: &[u8], job: &[u32], lent: &mut [u32]) {
     let answer = mapper::map(job, lent);
-    say::text(name);
-    say_answer(answer);
-    say::text(b";");
-    say_words(lent);
-    say::text(b"\n");
+    say::text(rt, name);
+    say_answer(rt, answer);
+    say::text(rt, b";");
+    say_words(rt, lent);
+    say::text(rt, b"\n");
 }
 
 // Maps a job into so many lent words.
-pub fn mapped(name: &[u8], job: &[u32], lent: usize)
+pub fn mapped(rt: &HostRuntime, name: &[u8], job: &[u32], lent: usize)
     requires { lent ≤ 32 }
 {
     let mut words = [LENT; 32];
-    mapped_into(name, job, &mut words[..lent]);
+    mapped_into(rt, name, job, &mut words[..lent]);
 }

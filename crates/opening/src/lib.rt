@@ -1,4 +1,6 @@
 // The tables of a bench: those of a job, and those of zeros.
+#![tactic(auto)]
+
 ghost use Rattle.std.specs.Prelude.{◌≡◌, ◌≤◌, length};
 ghost use Rattle.reader.specs.Job as J;
 ghost use Rattle.sequence.specs.Limits.{most_sources, most_targets};

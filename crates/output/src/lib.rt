@@ -1,4 +1,6 @@
 // What output codes show of a target's ports: document 01, "What a binding shows".
+#![tactic(auto)]
+
 ghost use Rattle.std.specs.Prelude.{◌≡◌, ◌^◌, ◌<◌};
 ghost use Rattle.std.specs.Bool.{beq};
 ghost use Rattle.bits.specs.Asked as Q;
@@ -8,7 +10,7 @@ ghost use Rattle.output.specs.Output as B;
 use bits::Ports;
 
 // The codes of a recipe's outputs.
-#[derive(Drop)]
+#[derive(Clone, Copy)]
 pub struct Outputs {
     pub main: u32,
     pub cout: u32,

@@ -1,23 +1,25 @@
 // Words written as eight hexadecimal digits, parted by spaces or line feeds, on standard input; their bytes on standard output. From # to
 // the end of the line is a comment.
+#![tactic(auto)]
+
 use word_text::Found;
 
 // Writes a word's bytes, and answers whether it could.
-fn write_word(word: u32) -> bool {
+fn write_word(rt: &HostRuntime, word: u32) -> bool {
     let bytes = files::bytes_of(word);
-    console::print(&bytes)
+    console::print(rt, &bytes)
 }
 
 // Writes each word, until the text is over or a word cannot be written.
-fn pack() {
+fn pack(rt: &HostRuntime) {
     let mut text = word_text::unread();
     loop {
-        let taken = text.next(b"pack_words");
+        let taken = text.next(rt, b"pack_words");
         let found = taken.found;
         let Found::Word(word) = found else {
             return;
         };
-        if !write_word(word) {
+        if !write_word(rt, word) {
             return;
         }
         let rest = taken.text;
@@ -28,9 +30,10 @@ fn pack() {
 // How the program is called.
 const USAGE: [u8; 33] = *b"usage: pack_words < TEXT > WORDS\n";
 
-fn help() {
-    console::print(&USAGE);
+fn help(rt: &HostRuntime) {
+    console::print(rt, &USAGE);
     console::print(
+        rt,
         b"\n\
         Writes the bytes of words, four each, the lowest first. A word is eight hexadecimal digits. Spaces or line feeds\n\
         part words; # begins a comment, which ends with its line.\n\
@@ -39,14 +42,14 @@ fn help() {
     );
 }
 
-fn main() {
-    if arguments::asks_help() {
-        help();
+fn main(rt: HostRuntime) {
+    if arguments::asks_help(&rt) {
+        help(&rt);
         return;
     }
-    if 1 < os::arg_count() {
-        arguments::usage(&USAGE);
+    if 1 < arguments::count(&rt) {
+        arguments::usage(&rt, &USAGE);
         return;
     }
-    pack();
+    pack(&rt);
 }

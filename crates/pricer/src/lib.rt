@@ -1,4 +1,6 @@
 // The pricer: the glue count of a mapping that fits its job. Document 01, "Glue count".
+#![tactic(auto)]
+
 ghost use Rattle.std.specs.Prelude.{◌≡◌};
 ghost use Rattle.bits.specs.Asked as Q;
 ghost use Rattle.table.specs.Parts as T;
@@ -10,7 +12,7 @@ use words::Refusal;
 
 // The glue count of a mapping's bindings; or the first refusal, of the job or of the mapping by itself, or of the mapping as the
 // job's.
-#[derive(Drop)]
+#[derive(Clone, Copy)]
 pub enum Priced {
     Count(u32),
     JobRefused(Refusal),

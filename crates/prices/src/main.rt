@@ -1,4 +1,6 @@
 // The count of many sets of bindings, by the library and by the reference.
+#![tactic(auto)]
+
 mod random;
 mod tables;
 
@@ -122,20 +124,21 @@ fn random_sets() -> Tally {
 }
 
 // One count, printed.
-fn total(name: &[u8], words: &[u32], n: u64, multiplexer: u64, other: u64) {
+fn total(rt: &HostRuntime, name: &[u8], words: &[u32], n: u64, multiplexer: u64, other: u64) {
     let costs = Costs {
         n,
         inverter: other,
         gate: other,
         multiplexer,
     };
-    say::count(name, price(usage::joined(words), costs));
-    say::text(b"\n");
+    say::count(rt, name, price(usage::joined(words), costs));
+    say::text(rt, b"\n");
 }
 
-fn report_totals() {
+fn report_totals(rt: &HostRuntime) {
     let printed = testing::words::MAPPING;
     total(
+        rt,
         b"no bindings at width 64 and prices 255: ",
         &printed[..0],
         64,
@@ -143,6 +146,7 @@ fn report_totals() {
         255,
     );
     total(
+        rt,
         b"all codes at width 64 and prices 255: ",
         &ALL,
         64,
@@ -150,6 +154,7 @@ fn report_totals() {
         255,
     );
     total(
+        rt,
         b"printed mapping: ",
         testing::words::bindings_of(&printed),
         16,
@@ -158,12 +163,12 @@ fn report_totals() {
     );
 }
 
-fn main() {
+fn main(rt: HostRuntime) {
     let nothing = [0; 1];
-    say::report(b"no bindings", at_many(none(), &nothing[..0]));
-    say::report(b"one code", single_codes());
-    say::report(b"two codes", pairs());
-    say::report(b"all codes", at_many(none(), &ALL));
-    say::report(b"random sets", random_sets());
-    report_totals();
+    say::report(&rt, b"no bindings", at_many(none(), &nothing[..0]));
+    say::report(&rt, b"one code", single_codes());
+    say::report(&rt, b"two codes", pairs());
+    say::report(&rt, b"all codes", at_many(none(), &ALL));
+    say::report(&rt, b"random sets", random_sets());
+    report_totals(&rt);
 }

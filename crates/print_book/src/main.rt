@@ -1,23 +1,25 @@
 // Prints the book: a line for each of its rules.
+#![tactic(auto)]
+
 ghost use Rattle.std.specs.Prelude.{◌<◌, length};
 ghost use Rattle.book.specs.Book.{book};
 
 use book_lines::MOST_RULE_BYTES;
 
 // Prints the line of a rule, and answers whether it could.
-fn print_rule(index: usize) -> bool
+fn print_rule(rt: &HostRuntime, index: usize) -> bool
     requires { index < length book }
 {
     let mut line = [0u8; MOST_RULE_BYTES];
     let end = book_lines::put_rule(index, &mut line);
-    console::print(&line[..end])
+    console::print(rt, &line[..end])
 }
 
 // Prints the rules in the book's order, until a line cannot be printed.
-fn print_all() {
+fn print_all(rt: &HostRuntime) {
     let mut index = 0;
     while index < book::SIZE {
-        if !print_rule(index) {
+        if !print_rule(rt, index) {
             return;
         }
         index += 1;
@@ -25,8 +27,9 @@ fn print_all() {
 }
 
 // Says what the program does, and shows it.
-fn help() {
+fn help(rt: &HostRuntime) {
     console::print(
+        rt,
         b"usage: print_book\n\
         \n\
         Prints a line for each rule of the book: source, target or LV, word, and the record of the report's appendix A that\n\
@@ -36,14 +39,14 @@ fn help() {
     );
 }
 
-fn main() {
-    if arguments::asks_help() {
-        help();
+fn main(rt: HostRuntime) {
+    if arguments::asks_help(&rt) {
+        help(&rt);
         return;
     }
-    if 1 < os::arg_count() {
-        arguments::usage(b"usage: print_book\n");
+    if 1 < arguments::count(&rt) {
+        arguments::usage(&rt, b"usage: print_book\n");
         return;
     }
-    print_all();
+    print_all(&rt);
 }

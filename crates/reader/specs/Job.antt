@@ -1,6 +1,5 @@
 -- Document 01, "Words" and refusals 1 to 6: the reading of a job.
-use Rattle.std.specs.Prelude.{ℕ, ◌≡◌, List, [], ◌∷◌, eqb, ltb, length, get_or}
-use Rattle.words.specs.Choice.{if◌then◌else◌}
+use Rattle.std.specs.Prelude.{ℕ, ◌≡◌, List, [], ◌∷◌, eqb, ltb, length, get_or, if◌then◌else◌}
 use Rattle.words.specs.Field.{field}
 use Rattle.words.specs.Paper.{Paper, refusal, accepted, told}
 use Rattle.words.specs.declared.Prices.{Prices}

@@ -1,6 +1,5 @@
 -- Document 01, "Words" and refusals 1 to 6: the reading of a mapping.
-use Rattle.std.specs.Prelude.{ℕ, ◌-◌, ◌≡◌, not, List, [], ◌∷◌, eqb, ltb, length, get_or}
-use Rattle.words.specs.Choice.{if◌then◌else◌}
+use Rattle.std.specs.Prelude.{ℕ, ◌-◌, ◌≡◌, not, List, [], ◌∷◌, eqb, ltb, length, get_or, if◌then◌else◌}
 use Rattle.words.specs.Field.{field}
 use Rattle.words.specs.Kinds.{GLUE}
 use Rattle.words.specs.Paper.{Paper, refusal, accepted, told}

@@ -1,5 +1,7 @@
 // The reader of jobs and mappings: what their words say, or the first refusal, 1 to 6. Document 01, "Words" and "Refusals that
 // come from the input".
+#![tactic(auto)]
+
 ghost use Rattle.std.specs.Prelude.{◌≡◌};
 ghost use Rattle.reader.specs.Starts as S;
 ghost use Rattle.reader.specs.Job as J;
@@ -16,7 +18,7 @@ pub const BINDINGS_START: usize = 1;
 
 // What a job says: its width, its prices, how many sources, targets and rules its words hold, in this order, behind these, and whether it
 // asks for the book.
-#[derive(Drop)]
+#[derive(Clone, Copy)]
 pub struct Job {
     pub width: u32,
     pub prices: Prices,
@@ -26,21 +28,21 @@ pub struct Job {
     pub book: bool,
 }
 
-#[derive(Drop)]
+#[derive(Clone, Copy)]
 pub enum JobRead {
     Accepted(Job),
     Refused(Refusal),
 }
 
 // What a mapping says: its width, how many bindings its words hold, and its glue count.
-#[derive(Drop)]
+#[derive(Clone, Copy)]
 pub struct Mapping {
     pub width: u32,
     pub bindings: u32,
     pub glue: u32,
 }
 
-#[derive(Drop)]
+#[derive(Clone, Copy)]
 pub enum MappingRead {
     Accepted(Mapping),
     Refused(Refusal),

@@ -1,4 +1,6 @@
 // The library's reader beside the second one, with what tests say of both.
+#![tactic(auto)]
+
 use accounts::reading::{Reading, read};
 use reader::{Job, JobRead, MappingRead};
 use testing::say;
@@ -92,11 +94,12 @@ pub fn compare(
     noted(all, told.number, expected & same(told, read(of_job, file)))
 }
 
-pub fn report(name: &[u8], all: Numbers) {
+pub fn report(rt: &HostRuntime, name: &[u8], all: Numbers) {
     let tally = all.tally;
     let by = all.by;
-    say::text(name);
+    say::text(rt, name);
     say::line(
+        rt,
         b": # compared, # differ; accepted #, refused 1: #, 2: #, 3: #, 4: #, 5: #, 6: #\n",
         &[
             tally.compared,

@@ -170,32 +170,32 @@ fn words(from: usize, to: usize) -> Numbers {
     all
 }
 
-fn report_size(i: usize) {
+fn report_size(rt: &HostRuntime, i: usize) {
     if i < 6 {
         let all = sizes(SIZE_GROUPS[i], SIZE_GROUPS[i + 1]);
-        report(name_at(&SIZE_NAMES, i), all);
+        report(rt, name_at(&SIZE_NAMES, i), all);
     }
 }
 
-pub fn report_sizes() {
+pub fn report_sizes(rt: &HostRuntime) {
     let mut i = 0;
     while i < 6 {
-        report_size(i);
+        report_size(rt, i);
         i += 1;
     }
 }
 
-fn report_word(i: usize) {
+fn report_word(rt: &HostRuntime, i: usize) {
     if i < 5 {
         let all = words(WORD_GROUPS[i], WORD_GROUPS[i + 1]);
-        report(name_at(&WORD_NAMES, i), all);
+        report(rt, name_at(&WORD_NAMES, i), all);
     }
 }
 
-pub fn report_words() {
+pub fn report_words(rt: &HostRuntime) {
     let mut i = 0;
     while i < 5 {
-        report_word(i);
+        report_word(rt, i);
         i += 1;
     }
 }

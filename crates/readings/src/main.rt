@@ -2,6 +2,8 @@
 // place, each bit of a header turned, and random files with random damage. A line for each group says how many files were compared, at how many of them the
 // two differ (or, where document 01 tells the answer, differ from it), and how many were accepted or met each refusal. The program is
 // a test, so its contracts say only what safety needs.
+#![tactic(auto)]
+
 mod damage;
 mod files;
 mod limits;
@@ -11,10 +13,14 @@ mod random;
 use damage::damaged_files;
 use readers::report;
 
-fn main() {
-    limits::report_sizes();
-    limits::report_words();
-    places::report_places();
-    report(b"jobs with random damage", damaged_files(true, 300000));
-    report(b"mappings with random damage", damaged_files(false, 300000));
+fn main(rt: HostRuntime) {
+    limits::report_sizes(&rt);
+    limits::report_words(&rt);
+    places::report_places(&rt);
+    report(&rt, b"jobs with random damage", damaged_files(true, 300000));
+    report(
+        &rt,
+        b"mappings with random damage",
+        damaged_files(false, 300000),
+    );
 }

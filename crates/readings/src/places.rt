@@ -176,17 +176,17 @@ fn group(of_job: bool, done: u32, places: u32) -> Numbers {
     }
 }
 
-fn report_group(i: usize) {
+fn report_group(rt: &HostRuntime, i: usize) {
     if i < 16 {
         let all = group(i < 8, DONE[i % 8], PLACES[i]);
-        report(name_at(&NAMES, i), all);
+        report(rt, name_at(&NAMES, i), all);
     }
 }
 
-pub fn report_places() {
+pub fn report_places(rt: &HostRuntime) {
     let mut i = 0;
     while i < 16 {
-        report_group(i);
+        report_group(rt, i);
         i += 1;
     }
 }

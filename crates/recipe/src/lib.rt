@@ -1,4 +1,6 @@
 // Recipe words: document 01, "Words". Shifts and masks take a word apart and build it.
+#![tactic(auto)]
+
 ghost use Rattle.std.specs.Prelude.{◌≡◌};
 ghost use Rattle.recipe.specs.Asked as Q;
 ghost use Rattle.recipe.specs.Fields as F;
@@ -7,7 +9,7 @@ ghost use Rattle.recipe.specs.Fields as F;
 pub const SCRATCH: u32 = 0;
 
 // The fields of a recipe word. `blank` is bit 4, which the layout wants zero.
-#[derive(Drop)]
+#[derive(Clone, Copy)]
 pub struct Fields {
     pub source: u32,
     pub target: u32,

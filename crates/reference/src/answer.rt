@@ -17,7 +17,7 @@ pub const PRICED: u32 = 5;
 pub const WRITTEN: u32 = 6;
 
 // The number of a refusal, 0 for none, and its place; of no refusal the count or the size that is given.
-#[derive(Drop)]
+#[derive(Clone, Copy)]
 pub struct Answer {
     pub form: u32,
     pub number: u32,

@@ -5,7 +5,7 @@ use crate::logic::logic;
 use crate::places::fits;
 
 // The four ports, as numbers.
-#[derive(Drop)]
+#[derive(Clone, Copy)]
 pub struct Shown {
     pub o0: u64,
     pub ocout: u32,

@@ -2,7 +2,7 @@
 use crate::evaluator::{Shown, evaluate, first_out_of_range};
 use crate::places::{bit, number, with_bit};
 
-#[derive(Drop)]
+#[derive(Clone, Copy)]
 pub struct Fields {
     pub kind: u32,
     pub source: u32,

@@ -23,7 +23,7 @@ pub fn ones(n: u32) -> u64 {
     0xffff_ffff_ffff_ffffu64 >> (64 - n)
 }
 
-#[derive(Drop)]
+#[derive(Clone, Copy)]
 pub struct Operands {
     pub left: u64,
     pub right: u64,
@@ -114,7 +114,7 @@ pub fn is_right(word: u32, n: u32) -> bool {
 }
 
 // What is said of a wrong recipe: its source function, the lowest port that differs, and operands at which it does.
-#[derive(Drop)]
+#[derive(Clone, Copy)]
 pub struct Witness {
     pub function: u32,
     pub port: u32,

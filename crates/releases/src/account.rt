@@ -10,7 +10,7 @@ use std::num::wrapping_add_usize;
 use testing::words::{at, put};
 
 // Nothing stands past the last rule.
-#[derive(Drop)]
+#[derive(Clone, Copy)]
 pub struct List {
     pub rules: [u32; 27],
     pub size: usize,

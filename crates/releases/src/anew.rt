@@ -27,35 +27,35 @@ const STEPS: [u32; 16] = [
 ];
 
 // A rule is bound, a function released.
-fn step(bench: [u32; BENCH_WORDS], argument: u32) -> Told {
+fn step(rt: &HostRuntime, bench: [u32; BENCH_WORDS], argument: u32) -> Told {
     if argument < 32 {
-        say::count(b"    release ", argument as u64);
+        say::count(rt, b"    release ", argument as u64);
         return calls::release(bench, argument);
     }
-    say::word(b"    bind ", argument);
+    say::word(rt, b"    bind ", argument);
     calls::bind(bench, argument)
 }
 
-fn show_price(bench: [u32; BENCH_WORDS]) {
+fn show_price(rt: &HostRuntime, bench: [u32; BENCH_WORDS]) {
     let priced = calls::price(bench);
     let price = priced.answer;
-    lines::answer(b"", price);
+    lines::answer(rt, b"", price);
 }
 
 // At the end the bench is the opened one again.
-pub fn report() {
-    say::text(b"bound, released and bound anew\n");
+pub fn report(rt: &HostRuntime) {
+    say::text(rt, b"bound, released and bound anew\n");
     let opened = calls::open(&JOB);
     let first = opened.bench;
     let mut bench = first;
     let mut i = 0;
     while i < 16 {
-        let told = step(bench, STEPS[i]);
+        let told = step(rt, bench, STEPS[i]);
         let answer = told.answer;
         let next = told.bench;
-        lines::answer(b"", answer);
-        show_price(next);
-        lines::whether(same_bench(&next, &first), b", as opened\n|\n");
+        lines::answer(rt, b"", answer);
+        show_price(rt, next);
+        lines::whether(rt, same_bench(&next, &first), b", as opened\n|\n");
         bench = next;
         i += 1;
     }

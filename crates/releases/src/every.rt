@@ -8,7 +8,7 @@ use testing::tally::more;
 use testing::words::put;
 
 // Numbers tried, those released, and those at which the answer or the bench is not as it should be.
-#[derive(Drop)]
+#[derive(Clone, Copy)]
 struct Tally {
     tried: u64,
     released: u64,
@@ -43,7 +43,7 @@ fn with(all: Tally, bench: [u32; BENCH_WORDS], function: u32, is_bound: bool) ->
     }
 }
 
-fn report_bench(name: &[u8], bench: [u32; BENCH_WORDS], all_bound: bool) {
+fn report_bench(rt: &HostRuntime, name: &[u8], bench: [u32; BENCH_WORDS], all_bound: bool) {
     let mut all = Tally {
         tried: 0,
         released: 0,
@@ -56,8 +56,9 @@ fn report_bench(name: &[u8], bench: [u32; BENCH_WORDS], all_bound: bool) {
         all = next;
         function += 1;
     }
-    say::text(name);
+    say::text(rt, name);
     say::line(
+        rt,
         b": # numbers tried, # released, # differ\n",
         &[all.tried, all.released, all.differ],
     );
@@ -73,10 +74,11 @@ fn emptied(bench: [u32; BENCH_WORDS]) -> [u32; BENCH_WORDS] {
     counted(empty)
 }
 
-pub fn report() {
+pub fn report(rt: &HostRuntime) {
     let bench = whole_bench(2);
-    report_bench(b"every function bound to itself", bench, true);
+    report_bench(rt, b"every function bound to itself", bench, true);
     report_bench(
+        rt,
         b"every function a source, nothing bound",
         emptied(bench),
         false,

@@ -39,39 +39,51 @@ const NAMES: [u8; 329] =
     |the printed LT bound, LT|the printed LT bound, RSUB, not bound";
 
 // What becomes of the bench: nothing stands at the index, or the bench is kept.
-fn say_outcome(as_said: bool, index: usize) {
+fn say_outcome(rt: &HostRuntime, as_said: bool, index: usize) {
     if index < BENCH_WORDS {
-        lines::whether(as_said, b", taken off\n|, NOT TAKEN OFF\n");
+        lines::whether(rt, as_said, b", taken off\n|, NOT TAKEN OFF\n");
     } else {
-        lines::whether(as_said, b", bench kept\n|, NOT SO\n");
+        lines::whether(rt, as_said, b", bench kept\n|, NOT SO\n");
     }
 }
 
-fn show_release(name: &[u8], bench: [u32; BENCH_WORDS], function: u32, index: usize) {
+fn show_release(
+    rt: &HostRuntime,
+    name: &[u8],
+    bench: [u32; BENCH_WORDS],
+    function: u32,
+    index: usize,
+) {
     let told = calls::release(bench, function);
     let answer = told.answer;
     let next = told.bench;
     let mut expected = bench;
     put(&mut expected, index, 0);
-    say::count(b"    ", function as u64);
-    say::text(b", ");
-    lines::answer(name, answer);
-    say_outcome(same_bench(&next, &counted(expected)), index);
+    say::count(rt, b"    ", function as u64);
+    say::text(rt, b", ");
+    lines::answer(rt, name, answer);
+    say_outcome(rt, same_bench(&next, &counted(expected)), index);
 }
 
-fn show(name: &[u8], row: u64) {
+fn show(rt: &HostRuntime, name: &[u8], row: u64) {
     let width = row / 0x1_0000_0000_0000;
     let bound = row / 0x100_0000_0000 % 256;
     let index = row / 0x1_0000_0000 % 256;
     let bench = bench_with((width % 256) as u32, bound as u32);
-    show_release(name, bench, (row % 0x1_0000_0000) as u32, index as usize);
+    show_release(
+        rt,
+        name,
+        bench,
+        (row % 0x1_0000_0000) as u32,
+        index as usize,
+    );
 }
 
-pub fn report() {
-    say::text(b"release, ADD, AND and LT being bound\n");
+pub fn report(rt: &HostRuntime) {
+    say::text(rt, b"release, ADD, AND and LT being bound\n");
     let mut i = 0;
     while i < 20 {
-        show(name_at(&NAMES, i), RELEASES[i]);
+        show(rt, name_at(&NAMES, i), RELEASES[i]);
         i += 1;
     }
 }

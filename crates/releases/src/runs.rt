@@ -69,7 +69,7 @@ const VECTORS: [u32; 16] = [0, 15, 1, 14, 7, 8, 6, 9, 3, 5, 12, 10, 4, 2, 13, 11
 
 // A run: the bench, the account's list, the binds and the releases that were done, the steps that were refused, and those at which the
 // two differ.
-#[derive(Drop)]
+#[derive(Clone, Copy)]
 struct Run {
     bench: [u32; BENCH_WORDS],
     list: List,
@@ -204,13 +204,14 @@ fn run_of(tables: [u32; BENCH_WORDS], binds: u64) -> Run {
     run
 }
 
-fn report_run(width: u32, binds: u64) {
+fn report_run(rt: &HostRuntime, width: u32, binds: u64) {
     let tables = tables_at(width);
     let run = run_of(tables, binds);
     let last = run.bench;
     let list = run.list;
     let again = bound_again(tables, list);
     say::line(
+        rt,
         b"a run at width #: # bound, # released, # refused, # differ; # bound at the end, ",
         &[
             width as u64,
@@ -222,13 +223,14 @@ fn report_run(width: u32, binds: u64) {
         ],
     );
     lines::whether(
+        rt,
         same_bench(&again, &last),
         b"the same bench when bound again\n|ANOTHER BENCH WHEN BOUND AGAIN\n",
     );
 }
 
-pub fn report() {
-    report_run(1, 32);
-    report_run(2, 44);
-    report_run(3, 56);
+pub fn report(rt: &HostRuntime) {
+    report_run(rt, 1, 32);
+    report_run(rt, 2, 44);
+    report_run(rt, 3, 56);
 }

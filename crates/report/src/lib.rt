@@ -1,4 +1,6 @@
 // A refusal and values in document 01's numbers, and how they are told to a caller in another language.
+#![tactic(auto)]
+
 ghost use Rattle.std.specs.Prelude.{◌≡◌, ◌≤◌, length, [], ◌∷◌};
 ghost use Rattle.words.specs.Paper.{accepted, refused_with, told};
 ghost use Rattle.bits.specs.Bits.{num};
@@ -18,7 +20,7 @@ pub const NONE: Refusal = Refusal {
 };
 
 // A refusal, or NONE, and the values that come with the answer, with zeros past them.
-#[derive(Drop)]
+#[derive(Clone, Copy)]
 pub struct Report {
     pub refusal: Refusal,
     pub count: usize,

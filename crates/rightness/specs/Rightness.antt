@@ -1,6 +1,5 @@
 -- Document 01, refusal 10, of the bindings of a mapping under the terms of its job.
-use Rattle.std.specs.Prelude.{ℕ, not, List, [], ◌∷◌}
-use Rattle.words.specs.Choice.{if◌then◌else◌}
+use Rattle.std.specs.Prelude.{ℕ, not, List, [], ◌∷◌, if◌then◌else◌}
 use Rattle.binding.specs.Right.{is_right}
 use Rattle.verdict.specs.Verdicts.{Ruling, Names}
 use Rattle.table.specs.Parts.{Terms}

@@ -1,4 +1,6 @@
 // Whether the bindings of a mapping are right: refusal 10.
+#![tactic(auto)]
+
 ghost use Rattle.bits.specs.Asked as Q;
 ghost use Rattle.table.specs.Parts as T;
 ghost use Rattle.rightness.specs.FirstWrong as W;

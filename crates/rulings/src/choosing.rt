@@ -12,14 +12,14 @@ use std::num::{wrapping_add_usize, wrapping_sub_usize};
 use testing::words::{at, content, first, glue_word, kind, put};
 
 // What a mapper answers, and the words that it writes where it refuses nothing.
-#[derive(Drop)]
+#[derive(Clone, Copy)]
 pub struct Mapped {
     pub answer: Answer,
     pub words: [u32; 29],
 }
 
 // The header of a mapping and a binding for each source; or the source for which there is no usable rule, 0 for none.
-#[derive(Drop)]
+#[derive(Clone, Copy)]
 struct Bound {
     words: [u32; 29],
     unmappable: u32,

@@ -1,10 +1,15 @@
 // A mapping's words written to a file that an argument names.
+#![tactic(auto)]
+
 ghost use Rattle.std.specs.Prelude.{◌*◌, ◌≤◌, length};
 ghost use Rattle.text.specs.Text as P;
 ghost use Rattle.files.specs.Files as F;
 ghost use Rattle.sequence.specs.Limits.{most_mapping_words};
 
 use sequence::MOST_MAPPING_WORDS;
+use std::fs::File;
+use std::io::{Error, ErrorKind, Write};
+use std::str;
 
 // The bytes of a mapping's file.
 fn put_file(words: &[u32], out: &mut [u8]) -> usize
@@ -22,30 +27,34 @@ fn put_file(words: &[u32], out: &mut [u8]) -> usize
     at
 }
 
+// Opens a file for writing, empty. Its name is text.
+fn create(rt: &HostRuntime, path: &[u8]) -> Result<File, Error> {
+    match str::from_utf8(path) {
+        Ok(name) => File::create(rt, name),
+        Err(_) => Err(Error::from(ErrorKind::InvalidFilename)),
+    }
+}
+
+// Writes bytes to the file of a name.
+fn write_file(rt: &HostRuntime, path: &[u8], bytes: &[u8]) -> Result<(), Error> {
+    let mut file = create(rt, path)?;
+    file.write_all(bytes)
+}
+
 // Writes bytes to the file, or says why it cannot.
-fn save_bytes(argument: usize, bytes: &[u8]) {
-    let mut path = io::buffer();
-    let length = os::arg(argument, &mut path);
-    let fd = os::open_overwrite(&path[..length]);
-    if fd < 0 {
-        os::fail(&path[..length]);
-        return;
-    }
-    if !io::write_all(fd, bytes) {
-        os::fail(&path[..length]);
-        libc::close(fd);
-        return;
-    }
-    if libc::close(fd) < 0 {
-        os::fail(&path[..length]);
+fn save_bytes(rt: &HostRuntime, argument: usize, bytes: &[u8]) {
+    let mut path = [0u8; arguments::MOST_BYTES];
+    let length = arguments::put_argument(rt, argument, &mut path);
+    if let Err(why) = write_file(rt, &path[..length], bytes) {
+        console::fail(rt, &path[..length], why);
     }
 }
 
 // Saves a mapping's words.
-pub fn save(argument: usize, words: &[u32])
+pub fn save(rt: &HostRuntime, argument: usize, words: &[u32])
     requires { length words.now ≤ most_mapping_words }
 {
     let mut file = [0u8; 4 * MOST_MAPPING_WORDS];
     let size = put_file(words, &mut file);
-    save_bytes(argument, &file[..size]);
+    save_bytes(rt, argument, &file[..size]);
 }

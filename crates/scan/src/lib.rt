@@ -1,4 +1,6 @@
 // The words of a job or a mapping one after another, up to the first refusal: document 01, "word by word, 2 to 6 in each".
+#![tactic(auto)]
+
 ghost use Rattle.std.specs.Prelude.{◌≡◌, ◌≤◌, length};
 ghost use Rattle.sequence.specs.Limits.{most_job_words};
 ghost use Rattle.grammar.specs.Reading as R;

@@ -1,7 +1,6 @@
 -- What the search for operands at which a recipe fails has found.
 -- Nothing here has to be believed: the proofs show that what it finds is what Verdicts.antt of the crate verdict says.
-use Rattle.std.specs.Prelude.{ℕ, ◌^◌, ◌<◌, false, ◌≡◌, List}
-use Rattle.words.specs.Choice.{if◌then◌else◌}
+use Rattle.std.specs.Prelude.{ℕ, ◌^◌, ◌<◌, false, ◌≡◌, List, if◌then◌else◌}
 use Rattle.bits.specs.Bits.{bit}
 use Rattle.binding.specs.Right.{RightFor, Agrees}
 use Rattle.binding.specs.declared.Side.{Side}

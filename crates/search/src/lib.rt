@@ -1,5 +1,7 @@
 // The search for operands at which a recipe fails: the machine's tables, the sets of failing states, and from a start state that is in
 // the set of the lowest place a walk to operands.
+#![tactic(auto)]
+
 ghost use Rattle.std.specs.Prelude.{◌≡◌, ◌<◌};
 ghost use Rattle.bits.specs.Bits as B;
 ghost use Rattle.bits.specs.Asked as Q;
@@ -10,7 +12,7 @@ use binding::{Recipe, Side};
 use equivalence::{moves, rounds, witness};
 
 // Whether a recipe shows what a source side shows at all operands, or operands and a carry at which it does not.
-#[derive(Drop)]
+#[derive(Clone, Copy)]
 pub enum Outcome {
     Holds,
     Fails(u64, u64, bool),

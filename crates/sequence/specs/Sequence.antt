@@ -1,6 +1,5 @@
 -- "2. Kind out of sequence or past its count": which kind of word may come next in a job and in a mapping.
-use Rattle.std.specs.Prelude.{ℕ, Bool, false, ◌&&◌, ◌||◌, eqb, ltb}
-use Rattle.words.specs.Choice.{if◌then◌else◌}
+use Rattle.std.specs.Prelude.{ℕ, Bool, false, ◌&&◌, ◌||◌, eqb, ltb, if◌then◌else◌}
 use Rattle.words.specs.Kinds.{HEADER, PRICES, SOURCE, TARGET, RULE, BINDING, GLUE}
 use Rattle.sequence.specs.Limits.{most_sources, most_targets, most_rules, most_bindings}
 use Rattle.sequence.specs.declared.File.{File}

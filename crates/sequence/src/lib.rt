@@ -1,4 +1,6 @@
 // How many words of each kind a job and a mapping may have, and in which sequence: refusal 2, "Kind out of sequence or past its count".
+#![tactic(auto)]
+
 ghost use Rattle.std.specs.Prelude.{◌≡◌};
 ghost use Rattle.sequence.specs.Sequence as S;
 
@@ -19,7 +21,7 @@ pub const MOST_JOB_WORDS: usize = 568;
 pub const MOST_MAPPING_WORDS: usize = 29;
 
 // What the words are read as.
-#[derive(Drop)]
+#[derive(Clone, Copy)]
 pub enum File {
     AsJob,
     AsMapping,
@@ -29,7 +31,7 @@ pub enum File {
 pub const START: u32 = 0;
 
 // What the words so far have shown: the stage, the function of the last word, and how many words of each kind there were.
-#[derive(Drop)]
+#[derive(Clone, Copy)]
 pub struct State {
     pub stage: u32,
     pub function: u32,

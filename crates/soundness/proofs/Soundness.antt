@@ -8,7 +8,7 @@ use lib.Bits.{bit_or}
 use lib.Dec.{eqb, ltb}
 use lib.ListN.{length, take, drop, get_or, drop_of_length-le}
 use borrow.Author.Tests.{eq-eqb, ne_eqb, eqb-true, lt-ltb, le-ltb, le-leb, ltb-false, not-true, not-false}
-use Rattle.words.specs.Choice.{if◌then◌else◌}
+use Rattle.std.specs.Prelude.{if◌then◌else◌}
 use Rattle.words.specs.Field.{kind_of, source_function, word_of}
 use Rattle.words.specs.Kinds.{HEADER, RULE}
 use Rattle.words.proofs.Choices.{either}

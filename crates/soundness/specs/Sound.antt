@@ -1,7 +1,6 @@
 -- Document 01, "Mapper and bench", and request #103: when a bench is sound. A bench is a job's tables, for each source in table order an
 -- entry for what is bound to it, and the count that it stores.
-use Rattle.std.specs.Prelude.{ℕ, ◌+◌, ◌*◌, ◌^◌, Bool, true, false, not, ◌&&◌, List, [], ◌∷◌, ◌++◌, eqb, ltb, take, drop}
-use Rattle.words.specs.Choice.{if◌then◌else◌}
+use Rattle.std.specs.Prelude.{ℕ, ◌+◌, ◌*◌, ◌^◌, Bool, true, false, not, ◌&&◌, List, [], ◌∷◌, ◌++◌, eqb, ltb, take, drop, if◌then◌else◌}
 use Rattle.words.specs.Field.{kind_of, source_function, word_of}
 use Rattle.words.specs.Kinds.{HEADER, PRICES, RULE}
 use Rattle.words.specs.Paper.{no_refusal}

@@ -1,6 +1,5 @@
 // The glue count of what is bound: of the set that the bindings in all entries use.
-ghost use Rattle.std.specs.Prelude.{◌≡◌, true, eqb};
-ghost use Rattle.words.specs.Choice.{if◌then◌else◌};
+ghost use Rattle.std.specs.Prelude.{◌≡◌, true, eqb, if◌then◌else◌};
 ghost use Rattle.usage.specs.Sets as U;
 ghost use Rattle.soundness.specs.Sound as S;
 

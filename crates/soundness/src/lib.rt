@@ -1,5 +1,7 @@
 // What a sound bench is: values in range, tables that a job could hold, in each source's entry nothing or a right recipe of it, and a
 // stored count that is the glue count of what is bound.
+#![tactic(auto)]
+
 mod counting;
 mod reading;
 
@@ -16,7 +18,7 @@ use words::Prices;
 pub const NOTHING: u32 = 0;
 
 // A job's width, prices and tables: so many of the source and target words are there, and NOTHING past them.
-#[derive(Drop)]
+#[derive(Clone, Copy)]
 pub struct Tables {
     pub width: u32,
     pub prices: Prices,

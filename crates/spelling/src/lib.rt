@@ -1,11 +1,13 @@
 // How the codes of a recipe are written, put into lent bytes: document 01, "Words".
+#![tactic(auto)]
+
 ghost use Rattle.std.specs.Prelude.{◌≡◌, ◌+◌, ◌*◌, ◌≤◌, length};
 ghost use Rattle.text.specs.Text as T;
 ghost use Rattle.spelling.specs.Room.{most_spelling};
 ghost use Rattle.spelling.specs.Spelling.{spelling_of};
 
 // The fields of a recipe that hold a code; the two wirings share theirs.
-#[derive(Drop)]
+#[derive(Clone, Copy)]
 pub enum Codes {
     Wiring,
     Carry,

@@ -1,6 +1,5 @@
 -- What stands in a job's tables of source and target words.
-use Rattle.std.specs.Prelude.{ℕ, Bool, true, false, not, List, [], ◌∷◌, eqb}
-use Rattle.words.specs.Choice.{if◌then◌else◌}
+use Rattle.std.specs.Prelude.{ℕ, Bool, true, false, not, List, [], ◌∷◌, eqb, if◌then◌else◌}
 use Rattle.words.specs.Field.{source_function, target_function}
 use Rattle.recipe.specs.Fields.{source_of, target_of, from_scratch}
 

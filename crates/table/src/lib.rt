@@ -1,4 +1,6 @@
 // The parts of a job and of a mapping, and what stands in a job's tables of source and target words.
+#![tactic(auto)]
+
 mod parts;
 
 ghost use Rattle.std.specs.Prelude.{◌≡◌};

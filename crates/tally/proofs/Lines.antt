@@ -4,7 +4,7 @@ use mathlib.Core.Bool.{Bool, true, false, ◌||◌}
 use Prim.Native.Nat.{ℕ, ◌+◌, ◌-◌, ◌*◌, ◌≤◌, ◌<◌}
 use native.Mathlib.Omega.{arith}
 use borrow.Author.Tests.{le-leb, lt-leb}
-use Rattle.words.specs.Choice.{if◌then◌else◌}
+use Rattle.std.specs.Prelude.{if◌then◌else◌}
 use Rattle.words.specs.declared.Prices.{Prices}
 use Rattle.bits.specs.Bits.{num, bit}
 use Rattle.glue.specs.Glue.{steps, distinct, minterms, comparison_codes, wirings, complements, carry_in, main_output, carry_out, code_price, codes_count, comparison, scratch, count_of}

@@ -1,4 +1,6 @@
 // The glue count of the bindings that use a set: document 01, "Glue count", line by line.
+#![tactic(auto)]
+
 ghost use Rattle.std.specs.Prelude.{◌≡◌, ◌≤◌};
 ghost use Rattle.bits.specs.Asked as Q;
 ghost use Rattle.glue.specs.Glue as G;
@@ -8,7 +10,7 @@ use glue::{amount, amount_each, codes_count, distinct, has, steps, when};
 use words::Prices;
 
 // A set of what is in use, taken apart: of each port a bit for each code, one for LO, and one for each minterm.
-#[derive(Drop)]
+#[derive(Clone, Copy)]
 struct Parts {
     left: u64,
     right: u64,

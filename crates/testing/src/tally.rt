@@ -5,7 +5,7 @@ pub fn more(n: u64, b: bool) -> u64 {
 }
 
 // The answers compared, and how many of them differ.
-#[derive(Drop)]
+#[derive(Clone, Copy)]
 pub struct Tally {
     pub compared: u64,
     pub differ: u64,
@@ -26,7 +26,7 @@ pub fn counted(tally: Tally, same: bool) -> Tally {
 }
 
 // The same with how many had each number: 0 for no refusal.
-#[derive(Drop)]
+#[derive(Clone, Copy)]
 pub struct Numbers {
     pub tally: Tally,
     pub by: [u64; 12],

@@ -1,4 +1,6 @@
 // Bytes, names and numbers put into lent bytes, from a position on.
+#![tactic(auto)]
+
 ghost use Rattle.std.specs.Prelude.{◌≡◌, ◌+◌, ◌*◌, ◌≤◌, length};
 ghost use Rattle.text.specs.Text as T;
 

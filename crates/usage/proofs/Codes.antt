@@ -6,7 +6,7 @@ use mathlib.Core.Bool.{Bool, true, false, not, ◌&&◌}
 use lib.Bits.{bit_or}
 use lib.Dec.{eqb}
 use lib.Pow.{pow-add, pow-lt}
-use Rattle.words.specs.Choice.{if◌then◌else◌}
+use Rattle.std.specs.Prelude.{if◌then◌else◌}
 use Rattle.words.specs.Field.{field}
 use Rattle.words.proofs.Fields.{field_lt, onto}
 use Rattle.bits.specs.Bits.{bit}

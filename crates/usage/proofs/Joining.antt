@@ -7,7 +7,7 @@ use native.Mathlib.Omega.{arith}
 use lib.Arith.{bin_ind}
 use lib.Bits.{bit_or, or_step, or_shr, or_comm, or_self, or_zero_r}
 use lib.ListN.{length, drop, get_or, drop_of_length-le}
-use Rattle.words.specs.Choice.{if◌then◌else◌}
+use Rattle.std.specs.Prelude.{if◌then◌else◌}
 use Rattle.words.specs.Field.{content_of}
 use Rattle.words.proofs.Lists.{drop-next}
 use Rattle.recipe.specs.Fields.{from_scratch, vector_of, fields_of}

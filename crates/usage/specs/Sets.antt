@@ -1,8 +1,7 @@
 -- How the code keeps what bindings use: as one number whose bits are a set. Nobody has to believe this: Glue.antt of the crate glue
 -- says what is in use and what it costs, and proofs/Joining.antt there shows that counting this set gives the same.
-use Rattle.std.specs.Prelude.{ℕ, ◌+◌, ◌*◌, ◌^◌, List, [], ◌∷◌}
+use Rattle.std.specs.Prelude.{ℕ, ◌+◌, ◌*◌, ◌^◌, List, [], ◌∷◌, if◌then◌else◌}
 use Rattle.std.specs.Int.Bits.{bit_or}
-use Rattle.words.specs.Choice.{if◌then◌else◌}
 use Rattle.recipe.specs.Fields.{from_scratch, vector_of, fields_of}
 use Rattle.recipe.specs.declared.Fields.{Fields}
 

@@ -1,5 +1,7 @@
 // What bindings use, kept as one set of bits: a bit for each value of each field, one for LO, and one for each minterm. Two sets are
 // joined by `|`, so a set knows neither the order of the bindings nor how often one stands.
+#![tactic(auto)]
+
 ghost use Rattle.std.specs.Prelude.{◌≡◌, ◌+◌, ◌<◌};
 ghost use Rattle.recipe.specs.Fields as F;
 ghost use Rattle.usage.specs.Sets as S;

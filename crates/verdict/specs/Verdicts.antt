@@ -1,7 +1,6 @@
 -- The verdict on a claim: document 01, "What a binding shows" and refusal 10; and the order in which a recipe handed in is judged.
-use Rattle.std.specs.Prelude.{ℕ, ◌^◌, ◌<◌, ◌≡◌, not, [], ◌∷◌, eqb}
+use Rattle.std.specs.Prelude.{ℕ, ◌^◌, ◌<◌, ◌≡◌, not, [], ◌∷◌, eqb, if◌then◌else◌}
 use Rattle.std.specs.Bool.{beq}
-use Rattle.words.specs.Choice.{if◌then◌else◌}
 use Rattle.words.specs.Field.{kind_of}
 use Rattle.words.specs.Kinds.{is_recipe}
 use Rattle.words.specs.Paper.{Paper, refusal, no_refusal, accepted, refused_with, told}

@@ -1,4 +1,6 @@
 // The verdict on a claim at a width: whether a recipe shows what the side of its source shows, at all operands and both carries.
+#![tactic(auto)]
+
 ghost use Rattle.std.specs.Prelude.{◌≡◌};
 ghost use Rattle.bits.specs.Asked as Q;
 ghost use Rattle.binding.specs.Right as R;
@@ -10,14 +12,14 @@ use search::Outcome;
 use words::{Refusal, Witness};
 
 // Right, or Wrong with function, port, both operands and carry.
-#[derive(Drop)]
+#[derive(Clone, Copy)]
 pub enum Verdict {
     Right,
     Wrong(Witness),
 }
 
 // The answer to a recipe word handed in by anybody.
-#[derive(Drop)]
+#[derive(Clone, Copy)]
 pub enum Judgement {
     Decided(Verdict),
     Refused(Refusal),

@@ -7,15 +7,15 @@ use reference::recipe::first_difference;
 use testing::tally::Tally;
 
 // A recipe that is wrong at a width, where its O1 differs at operands that document 01 names.
-fn wrong(tally: Tally, word: u32, n: u32, left: u64, right: u64) -> Tally {
+fn wrong(rt: &HostRuntime, tally: Tally, word: u32, n: u32, left: u64, right: u64) -> Tally {
     let trial = tried(word, n);
     let named = (first_difference(word, n, left, right, 0) == 3)
         & (first_difference(word, n, left, right, 1) == 3);
-    counted(tally, word, n, trial.holds & !trial.right & named)
+    counted(rt, tally, word, n, trial.holds & !trial.right & named)
 }
 
 // A recipe that is right, at the first of the nine widths or at all.
-fn right(tally: Tally, word: u32, widths: usize) -> Tally
+fn right(rt: &HostRuntime, tally: Tally, word: u32, widths: usize) -> Tally
     requires { widths ≤ 9 }
 {
     let mut tally = tally;
@@ -23,19 +23,19 @@ fn right(tally: Tally, word: u32, widths: usize) -> Tally
     while k < widths {
         let n = WIDTHS[k];
         let trial = tried(word, n);
-        let next = counted(tally, word, n, trial.holds & trial.right);
+        let next = counted(rt, tally, word, n, trial.holds & trial.right);
         tally = next;
         k += 1;
     }
     tally
 }
 
-pub fn report_cases() {
-    let printed = wrong(testing::tally::none(), 0x5C89_4407, 8, 127, 255);
-    let mended = right(printed, 0x5C89_440C, 9);
-    let appendix = wrong(mended, 0x5C8A_240B, 8, 0, 0);
-    let at_one = right(appendix, 0x5CCD_4003, 1);
-    let at_two = wrong(at_one, 0x5CCD_4003, 2, 1, 0);
-    let all = right(at_two, 0x5105_CEA0, 9);
-    testing::say::report(b"cases of document 01", all);
+pub fn report_cases(rt: &HostRuntime) {
+    let printed = wrong(rt, testing::tally::none(), 0x5C89_4407, 8, 127, 255);
+    let mended = right(rt, printed, 0x5C89_440C, 9);
+    let appendix = wrong(rt, mended, 0x5C8A_240B, 8, 0, 0);
+    let at_one = right(rt, appendix, 0x5CCD_4003, 1);
+    let at_two = wrong(rt, at_one, 0x5CCD_4003, 2, 1, 0);
+    let all = right(rt, at_two, 0x5105_CEA0, 9);
+    testing::say::report(rt, b"cases of document 01", all);
 }

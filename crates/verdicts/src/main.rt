@@ -2,6 +2,8 @@
 // on some thousands of recipes at nine widths. A line for each group says how many answers were compared and how many of them the
 // reference does not bear out; before it, where there are any, stands the first. The program is a test, so its contracts say only
 // what safety needs.
+#![tactic(auto)]
+
 mod cases;
 mod nine;
 mod pairings;
@@ -9,8 +11,8 @@ mod refusals;
 mod stored;
 mod trial;
 
-fn main() {
-    cases::report_cases();
-    refusals::report_refusals();
-    pairings::report_pairings();
+fn main(rt: HostRuntime) {
+    cases::report_cases(&rt);
+    refusals::report_refusals(&rt);
+    pairings::report_pairings(&rt);
 }

@@ -23,7 +23,7 @@ const NEVER: usize = 5;
 
 const BY_WIDTH: usize = 6;
 
-#[derive(Drop)]
+#[derive(Clone, Copy)]
 pub struct Recipes {
     pub counts: [u64; 15],
 }
@@ -42,14 +42,14 @@ pub fn word_at(content: u32, n: u32) -> u32 {
 }
 
 // The widths at which a recipe is right, by bits, the lowest the first of the nine; and what was compared.
-#[derive(Drop)]
+#[derive(Clone, Copy)]
 struct Judged {
     right: u32,
     tally: Tally,
 }
 
 // A recipe at each width, given by the low 28 bits of its word. The first difference of the tally is written out.
-fn judged_at_each(tally: Tally, content: u32) -> Judged {
+fn judged_at_each(rt: &HostRuntime, tally: Tally, content: u32) -> Judged {
     let mut tally = tally;
     let mut right = 0;
     let mut k: u32 = 0;
@@ -57,7 +57,7 @@ fn judged_at_each(tally: Tally, content: u32) -> Judged {
         let n = WIDTHS[k as usize];
         let word = word_at(content, n);
         let trial = tried(word, n);
-        let next = counted(tally, word, n, trial.holds);
+        let next = counted(rt, tally, word, n, trial.holds);
         tally = next;
         right = right | (number(trial.right) << k);
         k += 1;
@@ -78,9 +78,10 @@ fn with_widths(counts: [u64; 15], right: u32) -> [u64; 15] {
 }
 
 // One recipe more.
-pub fn with_recipe(all: Recipes, content: u32) -> Recipes {
+pub fn with_recipe(rt: &HostRuntime, all: Recipes, content: u32) -> Recipes {
     let counts = all.counts;
     let judged = judged_at_each(
+        rt,
         Tally {
             compared: counts[COMPARED],
             differ: counts[DIFFER],
@@ -111,9 +112,10 @@ pub fn together(all: Recipes, others: Recipes) -> Recipes {
 }
 
 // Ends a line that begins with the recipes' name.
-pub fn report(all: Recipes) {
+pub fn report(rt: &HostRuntime, all: Recipes) {
     let counts = all.counts;
     say::line(
+        rt,
         b": # recipes at nine widths, # compared, # differ; right at all #, at width 1 only #, at none #; by width \
         1: # 2: # 3: # 4: # 8: # 31: # 32: # 63: # 64: #\n",
         &counts,

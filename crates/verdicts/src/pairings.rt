@@ -23,14 +23,14 @@ fn kind_of(function: u32) -> u32 {
 
 const KINDS: [u8; 35] = *b"arithmetic|logic|comparison|scratch";
 
-fn say_pairing(sources: u32, targets: u32) {
-    say::text(name_at(&KINDS, sources as usize));
-    say::text(b" from ");
-    say::text(name_at(&KINDS, targets as usize));
+fn say_pairing(rt: &HostRuntime, sources: u32, targets: u32) {
+    say::text(rt, name_at(&KINDS, sources as usize));
+    say::text(rt, b" from ");
+    say::text(rt, name_at(&KINDS, targets as usize));
 }
 
 // The recipes of a pairing, the verdicts compared at widths 1 and 2, and how many are right at each; some at nine widths.
-#[derive(Drop)]
+#[derive(Clone, Copy)]
 struct Pairing {
     recipes: u64,
     tally: Tally,
@@ -55,16 +55,22 @@ fn share_of(sources: u32, targets: u32, one: bool, two: bool) -> u64 {
 }
 
 // Those judged at nine widths are chosen by a random number that the word itself seeds.
-fn with_recipe(all: Pairing, content: u32, sources: u32, targets: u32) -> Pairing {
+fn with_recipe(
+    rt: &HostRuntime,
+    all: Pairing,
+    content: u32,
+    sources: u32,
+    targets: u32,
+) -> Pairing {
     let tally = all.tally;
     let nine = all.nine;
     let one = tried(word_at(content, 1), 1);
     let two = tried(word_at(content, 2), 2);
-    let after_one = counted(tally, word_at(content, 1), 1, one.holds);
-    let after_two = counted(after_one, word_at(content, 2), 2, two.holds);
+    let after_one = counted(rt, tally, word_at(content, 1), 1, one.holds);
+    let after_two = counted(rt, after_one, word_at(content, 2), 2, two.holds);
     let random = next(next(next(content as u64))) % 1000;
     let at_nine = if random < share_of(sources, targets, one.right, two.right) {
-        nine::with_recipe(nine, content)
+        nine::with_recipe(rt, nine, content)
     } else {
         nine
     };
@@ -78,7 +84,7 @@ fn with_recipe(all: Pairing, content: u32, sources: u32, targets: u32) -> Pairin
 }
 
 // Every recipe of a pairing. The words of another kind of target are passed over, as many as a target has.
-fn paired(sources: u32, targets: u32) -> Pairing {
+fn paired(rt: &HostRuntime, sources: u32, targets: u32) -> Pairing {
     let mut all = Pairing {
         recipes: 0,
         tally: testing::tally::none(),
@@ -92,7 +98,7 @@ fn paired(sources: u32, targets: u32) -> Pairing {
     while content < end {
         let is_paired = kind_of(content / 0x4_0000 % 32) == targets;
         if is_paired & (reference::refusal::refusal_of(word_at(content, 1), 1).number == 0) {
-            let next = with_recipe(all, content, sources, targets);
+            let next = with_recipe(rt, all, content, sources, targets);
             all = next;
         }
         let passed = if is_paired { 0 } else { 0x3_ffff };
@@ -102,20 +108,21 @@ fn paired(sources: u32, targets: u32) -> Pairing {
 }
 
 // Those judged at nine widths, where there are any.
-fn report_nine(sources: u32, targets: u32, nine: Recipes) {
+fn report_nine(rt: &HostRuntime, sources: u32, targets: u32, nine: Recipes) {
     let counts = nine.counts;
     if 0 < counts[nine::RECIPES] {
-        say_pairing(sources, targets);
-        nine::report(nine);
+        say_pairing(rt, sources, targets);
+        nine::report(rt, nine);
     }
 }
 
 // One pairing more, of recipes that were judged at nine widths.
-fn with_pairing(all: Recipes, sources: u32, targets: u32) -> Recipes {
-    let these = paired(sources, targets);
+fn with_pairing(rt: &HostRuntime, all: Recipes, sources: u32, targets: u32) -> Recipes {
+    let these = paired(rt, sources, targets);
     let tally = these.tally;
-    say_pairing(sources, targets);
+    say_pairing(rt, sources, targets);
     say::line(
+        rt,
         b": # recipes at widths 1 and 2, # compared, # differ; right at 1: #, at 2: #\n",
         &[
             these.recipes,
@@ -126,38 +133,38 @@ fn with_pairing(all: Recipes, sources: u32, targets: u32) -> Recipes {
         ],
     );
     let nine = these.nine;
-    report_nine(sources, targets, nine);
+    report_nine(rt, sources, targets, nine);
     nine::together(all, nine)
 }
 
 // Three kinds of sources, four of targets.
-fn with_pairings() -> Recipes {
+fn with_pairings(rt: &HostRuntime) -> Recipes {
     let mut all = nine::none();
     let mut i: u32 = 0;
     while i < 12 {
-        let next = with_pairing(all, i / 4, i % 4);
+        let next = with_pairing(rt, all, i / 4, i % 4);
         all = next;
         i += 1;
     }
     all
 }
 
-fn stored() -> Recipes {
+fn stored(rt: &HostRuntime) -> Recipes {
     let mut all = nine::none();
     let mut i = 0;
     while i < 280 {
-        let next = nine::with_recipe(all, RECIPES[i] % 0x1000_0000);
+        let next = nine::with_recipe(rt, all, RECIPES[i] % 0x1000_0000);
         all = next;
         i += 1;
     }
     all
 }
 
-pub fn report_pairings() {
-    let chosen = with_pairings();
-    let kept = stored();
-    say::text(b"stored recipes");
-    nine::report(kept);
-    say::text(b"all");
-    nine::report(nine::together(chosen, kept));
+pub fn report_pairings(rt: &HostRuntime) {
+    let chosen = with_pairings(rt);
+    let kept = stored(rt);
+    say::text(rt, b"stored recipes");
+    nine::report(rt, kept);
+    say::text(rt, b"all");
+    nine::report(rt, nine::together(chosen, kept));
 }

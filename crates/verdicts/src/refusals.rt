@@ -60,7 +60,7 @@ fn with_one_field(word: u32, i: u32) -> u32 {
 
 const FOUR: [u32; 4] = [0, 1, 64, 65];
 
-#[derive(Drop)]
+#[derive(Clone, Copy)]
 struct Case {
     word: u32,
     width: u32,
@@ -97,7 +97,7 @@ fn case_of(lot: u32, i: u32, random: u64) -> Case {
 }
 
 // There are many, so the counts stay in the loop's own locals.
-fn compared(lot: u32, count: u32) -> Numbers {
+fn compared(rt: &HostRuntime, lot: u32, count: u32) -> Numbers {
     let mut tally = testing::tally::none();
     let mut by = [0; 12];
     let mut random = 0x2545_f491_4f6c_dd1d;
@@ -106,6 +106,7 @@ fn compared(lot: u32, count: u32) -> Numbers {
         let case = case_of(lot, i, random);
         let refusal = reference::refusal::refusal_of(case.word, case.width);
         let after = counted(
+            rt,
             tally,
             case.word,
             case.width,
@@ -122,11 +123,12 @@ fn compared(lot: u32, count: u32) -> Numbers {
     Numbers { tally, by }
 }
 
-fn report(name: &[u8], all: Numbers) {
+fn report(rt: &HostRuntime, name: &[u8], all: Numbers) {
     let tally = all.tally;
     let by = all.by;
-    say::text(name);
+    say::text(rt, name);
     say::line(
+        rt,
         b": # compared, # differ; refused 2: #, 3: #, 5: #, 6: #, 3 for the width: #, not refused: #\n",
         &[
             tally.compared,
@@ -141,17 +143,20 @@ fn report(name: &[u8], all: Numbers) {
     );
 }
 
-pub fn report_refusals() {
+pub fn report_refusals(rt: &HostRuntime) {
     report(
+        rt,
         b"every word of kind 5 at width 65",
-        compared(0, 0x1000_0000),
+        compared(rt, 0, 0x1000_0000),
     );
     report(
+        rt,
         b"random words at widths 0, 1, 64 and 65",
-        compared(1, 400000),
+        compared(rt, 1, 400000),
     );
     report(
+        rt,
         b"recipes with one field changed, at one of these widths",
-        compared(2, 35840),
+        compared(rt, 2, 35840),
     );
 }

@@ -38,7 +38,7 @@ pub fn judged(word: u32, n: u32) -> Answer {
 }
 
 // Whether a verdict is borne out, and whether it says right.
-#[derive(Drop)]
+#[derive(Clone, Copy)]
 pub struct Trial {
     pub holds: bool,
     pub right: bool,
@@ -56,11 +56,12 @@ pub fn tried(word: u32, n: u32) -> Trial {
 }
 
 // The numbers are 0 where nothing is refused; the judge's is 0 too where it says right, and 10 where it says wrong.
-fn say_difference(word: u32, n: u32) {
+fn say_difference(rt: &HostRuntime, word: u32, n: u32) {
     let told = judged(word, n);
     let refusal = reference::refusal::refusal_of(word, n);
-    say::word(b"differs: ", word);
+    say::word(rt, b"differs: ", word);
     say::line(
+        rt,
         b" at width #; judge: # #; reference: # #\n",
         &[
             n as u64,
@@ -73,10 +74,10 @@ fn say_difference(word: u32, n: u32) {
 }
 
 // One comparison more. The first difference of a tally is written out.
-pub fn counted(tally: Tally, word: u32, n: u32, same: bool) -> Tally {
+pub fn counted(rt: &HostRuntime, tally: Tally, word: u32, n: u32, same: bool) -> Tally {
     if !same {
         if tally.differ == 0 {
-            say_difference(word, n);
+            say_difference(rt, word, n);
         }
     }
     testing::tally::counted(tally, same)

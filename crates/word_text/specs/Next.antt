@@ -1,8 +1,7 @@
 -- What is found next in a text of words, by what was got of it, and where the text stands after it.
 use Rattle.std.specs.Prelude.{ℕ, ◌+◌, ◌^◌, ◌≤◌, ◌<◌, ◌≡◌, false}
-use Rattle.hex.specs.Hex.{between, ended}
-use Rattle.hex.specs.declared.Step.{Step}
-use Rattle.hex.specs.declared.Step.TheVariants as Step
+use Rattle.hexadecimal.specs.Hex.{between, ended}
+use Rattle.hexadecimal.specs.declared.Step.{Step}
 use Rattle.console.specs.declared.Stdin.{Stdin}
 use Rattle.console.specs.declared.Got.{Got}
 use Rattle.console.specs.declared.Got.TheVariants.{Byte, End, Failed}

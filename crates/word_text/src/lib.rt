@@ -1,15 +1,17 @@
 // A text of words on standard input, taken one word at a time, each as soon as it has ended.
+#![tactic(auto)]
+
 ghost use Rattle.std.specs.Prelude.{◌≡◌, ◌^◌, ◌≤◌, ◌<◌};
 ghost use Rattle.word_text.specs.Next as W;
 
 use console::{Got, Stdin};
-use hex::{Hex, Step};
+use hexadecimal::{Hex, Step};
 
 // More bytes than a text has. A text that is over stands here.
 const MOST: usize = 2305843009213693952;
 
 // Standard input, the word being read, and how many bytes came before.
-#[derive(Drop)]
+#[derive(Clone, Copy)]
 pub struct WordText {
     stdin: Stdin,
     hex: Hex,
@@ -17,14 +19,14 @@ pub struct WordText {
 }
 
 // A word; or that the text is over: it has ended, a read failed, or a byte cannot stand where it is.
-#[derive(Drop)]
+#[derive(Clone, Copy)]
 pub enum Found {
     Word(u32),
     Over,
 }
 
 // What was found, and the text after it.
-#[derive(Drop)]
+#[derive(Clone, Copy)]
 pub struct Taken {
     pub text: WordText,
     pub found: Found,
@@ -36,7 +38,7 @@ pub fn unread() -> WordText
 {
     WordText {
         stdin: console::unread(),
-        hex: hex::between(false),
+        hex: hexadecimal::between(false),
         at: 0,
     }
 }
@@ -48,7 +50,7 @@ fn over(stdin: Stdin, found: Found) -> Taken
     Taken {
         text: WordText {
             stdin,
-            hex: hex::between(false),
+            hex: hexadecimal::between(false),
             at: MOST,
         },
         found,
@@ -57,7 +59,7 @@ fn over(stdin: Stdin, found: Found) -> Taken
 
 // The word that a byte, or the end of the text, ends. An end with no digits before it only goes on, and ends no word. What cannot stand where
 // it is is said on standard error.
-fn word_by(step: Step, stdin: Stdin, at: usize, program: &[u8]) -> Taken
+fn word_by(rt: &HostRuntime, step: Step, stdin: Stdin, at: usize, program: &[u8]) -> Taken
     requires { at < 2 ^ 61 }
     ensures { result ≡ W.word_by step stdin at }
 {
@@ -72,21 +74,27 @@ fn word_by(step: Step, stdin: Stdin, at: usize, program: &[u8]) -> Taken
         },
         Step::More(_) => over(stdin, Found::Over),
         Step::Bad => {
-            console::complain(program, at);
+            console::complain(rt, program, at);
             over(stdin, Found::Over)
         }
     }
 }
 
 // No byte was got. A last word may stand at the end of the text without a gap behind it.
-fn last_word(got: Got, text: WordText, program: &[u8]) -> Taken
+fn last_word(rt: &HostRuntime, got: Got, text: WordText, program: &[u8]) -> Taken
     requires { text.at < 2 ^ 61 }
     ensures { result ≡ W.last_word got text }
 {
     let stdin = text.stdin;
     match got {
         Got::End => {
-            let last = word_by(hex::ended(text.hex, false), stdin, text.at, program);
+            let last = word_by(
+                rt,
+                hexadecimal::ended(text.hex, false),
+                stdin,
+                text.at,
+                program,
+            );
             let found = last.found;
             over(stdin, found)
         }
@@ -97,7 +105,7 @@ fn last_word(got: Got, text: WordText, program: &[u8]) -> Taken
 
 impl WordText {
     // Takes the next word. A read that fails is said on standard error, and so is a byte that cannot stand where it is, with the program's name.
-    pub fn next(self, program: &[u8]) -> Taken
+    pub fn next(self, rt: &HostRuntime, program: &[u8]) -> Taken
         requires { self.stdin.end ≤ 512 }
         ensures read { result.text.stdin.end ≤ 512 }
         ensures forward { W.Forward self.at result.found result.text.at }
@@ -106,16 +114,16 @@ impl WordText {
         let mut hex = self.hex;
         let mut at = self.at;
         while at < MOST {
-            let taken = stdin.next();
+            let taken = stdin.next(rt);
             let got = taken.got;
             let rest = taken.stdin;
             stdin = rest;
             let Got::Byte(byte) = got else {
-                return last_word(got, WordText { stdin, hex, at }, program);
+                return last_word(rt, got, WordText { stdin, hex, at }, program);
             };
-            let step = hex::taken(hex, byte);
+            let step = hexadecimal::taken(hex, byte);
             let Step::More(more) = step else {
-                return word_by(step, stdin, at, program);
+                return word_by(rt, step, stdin, at, program);
             };
             hex = more;
             at += 1;

@@ -1,6 +1,5 @@
 -- Document 01, "Words": the kinds of words.
-use Rattle.std.specs.Prelude.{ℕ, Bool, true, eqb}
-use Rattle.words.specs.Choice.{if◌then◌else◌}
+use Rattle.std.specs.Prelude.{ℕ, Bool, true, eqb, if◌then◌else◌}
 
 -- "1 header", "2 prices", "3, 4 source, target function", "5, 6 rule, binding", "7 .. glue count"
 abbrev pub HEADER : ℕ

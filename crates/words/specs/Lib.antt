@@ -1,4 +1,3 @@
-pub mod Choice
 pub mod Field
 pub mod Kinds
 pub mod Paper

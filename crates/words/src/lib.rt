@@ -1,5 +1,7 @@
 // 32-bit words: document 01, "Words". The top four bits are the kind; what stands below is the content. And what all crates share: the
 // kinds, a refusal, the values of refusal 10, and the prices.
+#![tactic(auto)]
+
 ghost use Rattle.std.specs.Prelude.{◌≡◌, ◌<◌, ◌^◌};
 ghost use Rattle.words.specs.Field.{kind_of, content_of, source_function, target_function, word_of};
 ghost use Rattle.words.specs.Kinds.{is_recipe};
@@ -23,7 +25,7 @@ pub const GLUE: u32 = 7;
 pub const NO_REFUSAL: u32 = 0;
 
 // A refusal: its number in document 01, and its place.
-#[derive(Drop)]
+#[derive(Clone, Copy)]
 pub struct Refusal {
     pub number: u32,
     pub place: usize,
@@ -31,7 +33,7 @@ pub struct Refusal {
 
 // What comes with refusal 10: the function as refusals write it, the lowest port that differs (0 O0, 1 OCOUT, 2 OVF, 3 O1), and operands
 // and a carry at which it does.
-#[derive(Drop)]
+#[derive(Clone, Copy)]
 pub struct Witness {
     pub function: u32,
     pub port: u32,
@@ -41,7 +43,7 @@ pub struct Witness {
 }
 
 // The prices of an inverter, a two-input gate and a two-way multiplexer.
-#[derive(Drop)]
+#[derive(Clone, Copy)]
 pub struct Prices {
     pub inverter: u8,
     pub gate: u8,

@@ -1,7 +1,6 @@
 -- The words of a mapping, and lent words after they are written.
-use Rattle.std.specs.Prelude.{ℕ, ◌+◌, List, [], ◌∷◌, ◌++◌, ltb, length}
+use Rattle.std.specs.Prelude.{ℕ, ◌+◌, List, [], ◌∷◌, ◌++◌, ltb, length, if◌then◌else◌}
 use Rattle.std.proofs.lemmas.List.Edits.{sets}
-use Rattle.words.specs.Choice.{if◌then◌else◌}
 use Rattle.words.specs.Field.{content_of, word_of}
 use Rattle.words.specs.Kinds.{HEADER, BINDING, GLUE}
 use Rattle.words.specs.Paper.{Paper, refusal, accepted, told}

@@ -1,4 +1,6 @@
 // The writer of mappings: header, bindings and glue count into lent words, or refusal 23 and no word touched.
+#![tactic(auto)]
+
 ghost use Rattle.std.specs.Prelude.{◌≡◌, ◌≤◌, length};
 ghost use Rattle.sequence.specs.Limits.{most_bindings};
 ghost use Rattle.writer.specs.Asked as Q;
@@ -7,7 +9,7 @@ ghost use Rattle.writer.specs.Write as W;
 use words::Refusal;
 
 // How many words were written, or refusal 23 with the words needed.
-#[derive(Drop)]
+#[derive(Clone, Copy)]
 pub enum Written {
     Words(usize),
     Refused(Refusal),

@@ -1,0 +1,12 @@
+-- `bench::Bench::open` meets its contract.
+use Rattle.bench.proofs.Opened.{as_read, open_refused, open_accepted}
+use Rattle.bench.proofs.Bench.open.Goals as goal
+
+pub tables_of-requires : goal.tables_of-requires
+tables_of-requires c = search as_read
+
+pub returns-in-Refused : goal.returns-in-Refused
+returns-in-Refused c = search open_refused
+
+pub returns-in-Accepted : goal.returns-in-Accepted
+returns-in-Accepted c = search open_accepted

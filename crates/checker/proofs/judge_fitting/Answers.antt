@@ -1,0 +1,12 @@
+-- `checker::judge_fitting` meets its contract.
+use Rattle.checker.proofs.Rulings.{incomplete, wrong_named, then_accounted}
+use Rattle.checker.proofs.judge_fitting.Goals as goal
+
+pub returns-then-unbound-ne-NO_FUNCTION : goal.returns-then-unbound-ne-NO_FUNCTION
+returns-then-unbound-ne-NO_FUNCTION c = search incomplete
+
+pub returns-in-Wrong : goal.returns-in-Wrong
+returns-in-Wrong c = search wrong_named
+
+pub returns-in-Right : goal.returns-in-Right
+returns-in-Right c = search then_accounted

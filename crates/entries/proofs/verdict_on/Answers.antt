@@ -1,0 +1,19 @@
+-- `entries::verdict_on` meets its contract.
+use Rattle.entries.proofs.Tabled.{few_sources, few_targets, width_sound}
+use Rattle.soundness.proofs.Shapes.{tables_shaped, sources_fit, sources_taken, targets_fit, targets_taken}
+use Rattle.entries.proofs.verdict_on.Goals as goal
+
+pub slice_bounds-sources-end : goal.slice_bounds-sources-end
+slice_bounds-sources-end c = search (tables_shaped, few_sources, sources_fit)
+
+pub slice_bounds-verdict_on-end : goal.slice_bounds-verdict_on-end
+slice_bounds-verdict_on-end c = search (tables_shaped, few_sources, sources_taken)
+
+pub slice_bounds-targets-end : goal.slice_bounds-targets-end
+slice_bounds-targets-end c = search (tables_shaped, few_targets, targets_fit)
+
+pub slice_bounds-verdict_on-end-2 : goal.slice_bounds-verdict_on-end-2
+slice_bounds-verdict_on-end-2 c = search (tables_shaped, few_targets, targets_taken)
+
+pub verdict_on-requires : goal.verdict_on-requires
+verdict_on-requires c = search width_sound

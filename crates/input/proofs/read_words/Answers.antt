@@ -1,0 +1,9 @@
+-- `input::read_words` meets its contract.
+use Rattle.input.proofs.Chunks.{all_read, few_kept}
+use Rattle.input.proofs.read_words.Goals as goal
+
+pub returns-clause-few : goal.returns-clause-few
+returns-clause-few g c = search few_kept
+
+pub returns-clause-read : goal.returns-clause-read
+returns-clause-read g c = search all_read

@@ -1,0 +1,13 @@
+-- `listing::binding_line` meets its contract.
+use Rattle.text.proofs.Joined.{after-put}
+use Rattle.listing.specs.Listing.{binding_line}
+use borrow.Author.Rules.{rules}
+use Rattle.listing.proofs.binding_line.Goals as goal
+
+pub returns-clause-short : goal.returns-clause-short
+unfolding binding_line
+returns-clause-short c = search rules
+
+pub returns-clause-text : goal.returns-clause-text
+unfolding binding_line
+returns-clause-text c = search after-put

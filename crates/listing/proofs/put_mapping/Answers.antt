@@ -1,0 +1,16 @@
+-- `listing::put_mapping` meets its contract.
+use borrow.Author.Rules.{rules}
+use Rattle.listing.proofs.Mapped.{binding_put, glue_puts, nothing-puts, whole_left}
+use Rattle.listing.proofs.put_mapping.Goals as goal
+
+pub returns-then-words-le-BINDINGS_START-clause-text : goal.returns-then-words-le-BINDINGS_START-clause-text
+returns-then-words-le-BINDINGS_START-clause-text c = search nothing-puts
+
+pub loop-i-init : goal.loop-i-init
+loop-i-init c = (search whole_left, search rules, search rules, search rules, search rules, search rules)
+
+pub loop-i-preserved : goal.loop-i-preserved
+loop-i-preserved c = (search binding_put, search rules, search rules, search rules, search rules, search rules)
+
+pub returns-clause-text : goal.returns-clause-text
+returns-clause-text c = search glue_puts

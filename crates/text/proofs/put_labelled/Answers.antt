@@ -1,0 +1,13 @@
+-- `text::put_labelled` meets its contract.
+use Rattle.text.proofs.Joined.{after-put}
+use Rattle.text.specs.Text.{labelled}
+use borrow.Author.Rules.{rules}
+use Rattle.text.proofs.put_labelled.Goals as goal
+
+pub returns-clause-short : goal.returns-clause-short
+unfolding labelled
+returns-clause-short c = search rules
+
+pub returns-clause-text : goal.returns-clause-text
+unfolding labelled
+returns-clause-text c = after-put c.put-end.ensures.text c.put_decimal.ensures.text
