@@ -1,4 +1,4 @@
-/* The C interface of the verified mapper of ALUs. Link libdeqhulov.a, which `rt staticlib deqhulov` writes to target/staticlib.
+/* The C interface of the verified mapper of ALUs. Link libdeqhulov.a, which `tools/build deqhulov` puts into target/staticlib.
  *
  * Each call returns the number of document 01's refusal, 0 for none, and stores its place, 0 for none. The values that come with an
  * answer are put into `out`, from its first word on; if it is shorter than the values, none of it is touched.
