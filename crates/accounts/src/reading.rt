@@ -1,17 +1,37 @@
 // A reader of jobs and mappings: a table of which kind may follow which, a count of the words of the same kind before, and the
 // recipes' refusals.
+use reference::answer::{Refusal, Subject, refused};
 use reference::recipe::fields_of;
-use reference::refusal::recipe_fault;
-use std::num::{wrapping_add_u32, wrapping_sub_usize};
+use reference::refusal::recipe_fits;
 use testing::words::{at, content, kind};
 
-// The number of the first refusal, 1 to 6, and its place; or 0, 0 and the facts that the words hold: the width, the three prices and
-// the numbers of sources, targets and rules, and 1 where the book is asked for; or the width, the number of bindings and the glue count.
-#[derive(Clone, Copy)]
-pub struct Reading {
-    pub number: u32,
-    pub place: usize,
-    pub facts: [u32; 8],
+// What the words of a job hold: the width, the prices of an inverter, a gate and a multiplexer, the numbers of sources, targets and rules,
+// and whether the book is asked for.
+#[derive(Clone, Copy, PartialEq, Eq)]
+pub struct JobFacts {
+    pub width: u32,
+    pub inverter: u32,
+    pub gate: u32,
+    pub multiplexer: u32,
+    pub sources: u32,
+    pub targets: u32,
+    pub rules: u32,
+    pub book: bool,
+}
+
+// What the words of a mapping hold: the width, the number of bindings and the glue count.
+#[derive(Clone, Copy, PartialEq, Eq)]
+pub struct MappingFacts {
+    pub width: u32,
+    pub bindings: u32,
+    pub glue: u32,
+}
+
+// The two kinds of files.
+#[derive(Clone, Copy, PartialEq, Eq)]
+enum File {
+    Job,
+    Mapping,
 }
 
 // The function of a source or target word, or of a recipe's source.
@@ -28,10 +48,13 @@ pub fn width_of(words: &[u32]) -> u32 {
 }
 
 // Kinds 2 to 5 stand in jobs only, 6 and 7 in mappings only.
-fn follows(of_job: bool, before: u32, kind: u32) -> bool {
+fn follows(file: File, before: u32, kind: u32) -> bool {
     match before {
         0 => kind == 1,
-        1 => (of_job & (kind == 2)) | (!of_job & ((kind == 6) | (kind == 7))),
+        1 => match file {
+            File::Job => kind == 2,
+            File::Mapping => (kind == 6) | (kind == 7),
+        },
         2 => kind == 3,
         3 => (kind == 3) | (kind == 4) | (kind == 5),
         4 => (kind == 4) | (kind == 5),
@@ -41,26 +64,22 @@ fn follows(of_job: bool, before: u32, kind: u32) -> bool {
     }
 }
 
-// How many words of a kind stand before an index.
-fn count_of(words: &[u32], end: usize, of: u32) -> u32 {
-    let mut count = 0;
-    let mut i = 0;
-    while i < end {
-        if kind(at(words, i)) == of {
-            count = wrapping_add_u32(count, 1);
-        }
-        i += 1;
-    }
-    count
+// How many words are of a kind.
+fn count_of(words: &[u32], of: u32) -> u32 {
+    let count = words.iter().filter(|word| kind(**word) == of).count();
+    (count % 0x1_0000_0000) as u32
 }
 
 // 3 of any word, and 5 and 6 of a recipe. The header of a job has room for one bit above the width, that of a mapping has not.
-fn content_fault(of_job: bool, word: u32) -> u32 {
+fn content_fits(file: File, word: u32) -> Result<(), u32> {
     let of = kind(word);
     let rest = content(word);
-    let room = if of_job { 256 } else { 128 };
+    let room = match file {
+        File::Job => 256,
+        File::Mapping => 128,
+    };
     if (of == 5) | (of == 6) {
-        return recipe_fault(word);
+        return recipe_fits(word);
     }
     let bad = match of {
         1 => (rest >= room) | (rest % 128 == 0) | (rest % 128 > 64),
@@ -68,89 +87,77 @@ fn content_fault(of_job: bool, word: u32) -> u32 {
         3 | 4 => (rest == 0) | (rest > 27),
         _ => false,
     };
-    if bad { 3 } else { 0 }
+    if bad { Err(3) } else { Ok(()) }
 }
 
-// 2 to 6 of the word at an index, or 0. Rules need not rise.
-fn word_fault(of_job: bool, words: &[u32], i: usize) -> u32 {
-    let word = at(words, i);
-    let last = at(words, wrapping_sub_usize(i, 1));
+// 2 to 6 of a word, by the words before it. Rules need not rise.
+fn word_fits(file: File, before: &[u32], word: u32) -> Result<(), u32> {
+    let last = before.last().copied().unwrap_or(0);
     let of = kind(word);
-    if !follows(of_job, kind(last), of) {
-        return 2;
+    if !follows(file, kind(last), of) {
+        return Err(2);
     }
     let most = if of == 5 { 512 } else { 27 };
-    if count_of(words, i, of) >= most {
-        return 2;
+    if count_of(before, of) >= most {
+        return Err(2);
     }
-    let fault = content_fault(of_job, word);
-    if fault == 3 {
-        return 3;
+    let fits = content_fits(file, word);
+    if fits == Err(3) {
+        return fits;
     }
     if (of == kind(last)) & (of != 5) & (function(word) <= function(last)) {
-        return 4;
+        return Err(4);
     }
-    fault
+    fits
 }
 
-fn fault_at(number: u32, place: usize) -> Reading {
-    Reading {
+// The first refusal of a file's words, 1 to 6, and its place. A job ends after a source at the earliest, a mapping with its glue count.
+fn is_well_formed(file: File, words: &[u32]) -> Result<(), (u32, usize)> {
+    let size = words.len();
+    let (most, least_end) = match file {
+        File::Job => (568, 3),
+        File::Mapping => (29, 7),
+    };
+    if (size == 0) | (size > most) {
+        return Err((1, 0));
+    }
+    for (i, word) in words.iter().enumerate() {
+        word_fits(file, &words[..i], *word).map_err(|number| (number, i))?;
+    }
+    if kind(words[size - 1]) < least_end {
+        return Err((2, size));
+    }
+    Ok(())
+}
+
+pub fn read_job(words: &[u32]) -> Result<JobFacts, Refusal> {
+    is_well_formed(File::Job, words).map_err(|(number, place)| refused(
+        Subject::Job,
         number,
         place,
-        facts: [0; 8],
-    }
-}
-
-// What words that are well formed hold.
-fn accepted(of_job: bool, words: &[u32]) -> Reading {
-    let size = words.len();
-    let width = width_of(words);
-    if !of_job {
-        let glue = content(at(words, wrapping_sub_usize(size, 1)));
-        return Reading {
-            number: 0,
-            place: 0,
-            facts: [width, count_of(words, size, 6), glue, 0, 0, 0, 0, 0],
-        };
-    }
+    ))?;
     let prices = at(words, 1);
-    Reading {
-        number: 0,
-        place: 0,
-        facts: [
-            width,
-            prices / 0x1_0000 % 256,
-            prices / 256 % 256,
-            prices % 256,
-            count_of(words, size, 3),
-            count_of(words, size, 4),
-            count_of(words, size, 5),
-            at(words, 0) / 128 % 2,
-        ],
-    }
+    Ok(JobFacts {
+        width: width_of(words),
+        inverter: prices / 0x1_0000 % 256,
+        gate: prices / 256 % 256,
+        multiplexer: prices % 256,
+        sources: count_of(words, 3),
+        targets: count_of(words, 4),
+        rules: count_of(words, 5),
+        book: at(words, 0) / 128 % 2 == 1,
+    })
 }
 
-// A job ends after a source at the earliest, a mapping with its glue count.
-pub fn read(of_job: bool, words: &[u32]) -> Reading {
-    let size = words.len();
-    let most = if of_job { 568 } else { 29 };
-    if (size == 0) | (size > most) {
-        return fault_at(1, 0);
-    }
-    let mut i = 0;
-    while i < size {
-        let number = word_fault(of_job, words, i);
-        if number != 0 {
-            return fault_at(number, i);
-        }
-        i += 1;
-    }
-    let last = kind(at(words, wrapping_sub_usize(size, 1)));
-    if last < 3 {
-        return fault_at(2, size);
-    }
-    if !of_job & (last != 7) {
-        return fault_at(2, size);
-    }
-    accepted(of_job, words)
+pub fn read_mapping(words: &[u32]) -> Result<MappingFacts, Refusal> {
+    is_well_formed(File::Mapping, words).map_err(|(number, place)| refused(
+        Subject::Mapping,
+        number,
+        place,
+    ))?;
+    Ok(MappingFacts {
+        width: width_of(words),
+        bindings: count_of(words, 6),
+        glue: content(words.last().copied().unwrap_or(0)),
+    })
 }

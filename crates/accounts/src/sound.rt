@@ -5,8 +5,7 @@ use crate::glue::{Costs, glue_count};
 use reference::recipe::fields_of;
 use reference::refusal::refusal_of;
 use reference::trial::is_right;
-use std::num::wrapping_add_usize;
-use testing::words::{at, content, kind};
+use testing::words::{after, at, content, first, kind};
 
 pub const BENCH_WORDS: usize = 88;
 
@@ -25,9 +24,8 @@ pub const GLUE: usize = 87;
 // A table from an index on, of so many words of a kind that rise, and zeros after them.
 fn table_fits(bench: &[u32], from: usize, count: u32, of: u32) -> bool {
     let mut last = of << 28;
-    let mut i = 0;
-    while i < 27 {
-        let word = at(bench, wrapping_add_usize(from, i));
+    for (i, word) in table_at(bench, from).iter().enumerate() {
+        let word = *word;
         if i < count as usize {
             if (kind(word) != of) | (content(word) > 27) | (word <= last) {
                 return false;
@@ -36,27 +34,24 @@ fn table_fits(bench: &[u32], from: usize, count: u32, of: u32) -> bool {
         } else if word != 0 {
             return false;
         }
-        i += 1;
     }
     true
 }
 
+// The 27 words of a table from an index on.
+fn table_at(bench: &[u32], from: usize) -> &[u32] {
+    first(after(bench, from), 27)
+}
+
 fn is_target(bench: &[u32], word: u32) -> bool {
-    let mut i = TARGETS;
-    while i < BOUND {
-        if at(bench, i) == word {
-            return true;
-        }
-        i += 1;
-    }
-    false
+    table_at(bench, TARGETS).contains(&word)
 }
 
 // A right rule of the source in an entry, from scratch or from a target of the table.
 fn may_be_bound(bench: &[u32], word: u32, place: usize) -> bool {
     let n = at(bench, WIDTH);
     let fields = fields_of(word);
-    if (fields.kind != 5) | (refusal_of(word, n).number != 0) {
+    if (fields.kind != 5) | refusal_of(word, n).is_some() {
         return false;
     }
     if (place >= at(bench, NSOURCES) as usize) | (0x3000_0000 | fields.source != at(bench, place)) {
@@ -66,16 +61,6 @@ fn may_be_bound(bench: &[u32], word: u32, place: usize) -> bool {
         return false;
     }
     is_right(word, n)
-}
-
-fn bound_on(bench: &[u32]) -> [u32; 27] {
-    let mut bound = [0u32; 27];
-    let mut i = 0;
-    while i < 27 {
-        bound[i] = at(bench, i + BOUND);
-        i += 1;
-    }
-    bound
 }
 
 // The glue count of what is bound; 0 where the width is past 64.
@@ -90,8 +75,7 @@ pub fn count_on(bench: &[u32]) -> u32 {
         gate: at(bench, 85) as u64,
         multiplexer: at(bench, 86) as u64,
     };
-    let bound = bound_on(bench);
-    (glue_count(&bound, costs) % 0x1_0000_0000) as u32
+    (glue_count(table_at(bench, BOUND), costs) % 0x1_0000_0000) as u32
 }
 
 // Every byte is a price.
@@ -108,15 +92,10 @@ pub fn is_sound(bench: &[u32]) -> bool {
     if !table_fits(bench, TARGETS, targets, 4) {
         return false;
     }
-    let mut place = 0;
-    while place < 27 {
-        let word = at(bench, place + BOUND);
-        if word != 0 {
-            if !may_be_bound(bench, word, place) {
-                return false;
-            }
+    for (place, word) in table_at(bench, BOUND).iter().enumerate() {
+        if (*word != 0) && !may_be_bound(bench, *word, place) {
+            return false;
         }
-        place += 1;
     }
     at(bench, GLUE) == count_on(bench)
 }

@@ -5,16 +5,14 @@ use native.Mathlib.Omega.{arith}
 use native.Mathlib.Nat.{mod-lt}
 use mathlib.Core.Bool.{Bool, true, false, not, false≢true}
 use lib.Dec.{eqb, ltb, leb}
-use lib.ListN.{get_or, get_or-eq_default}
 use lib.Pow.{pow_pos}
 use borrow.Author.Tests.{lt-ltb, le-ltb, le-leb, lt-leb, leb-true, leb-false, ltb-false, not-true, not-false}
-use Rattle.std.specs.Prelude.{if◌then◌else◌}
+use Rattle.std.specs.Prelude.{Option, Some, None, if◌then◌else◌, Ok, Err}
 use Rattle.words.specs.Paper.{refusal}
 use Rattle.words.proofs.Choices.{either}
-use Rattle.words.proofs.Lists.{get_or-within}
 use Rattle.bits.specs.Bits.{bit}
 use Rattle.bits.specs.Wiring.{wired, carried}
-use Rattle.alu.specs.Function.{functions, function_of, ports}
+use Rattle.alu.specs.Function.{function_of, ports}
 use Rattle.bits.specs.Sum.{sum}
 use Rattle.bits.specs.Vector.{minterm, logic_word}
 use Rattle.bits.specs.Order.{compared}
@@ -24,16 +22,7 @@ use Rattle.bits.specs.Asked.{Width, Operands}
 use Rattle.bits.specs.declared.Ports.{Ports}
 use Rattle.alu.specs.declared.Kind.{Kind}
 use Rattle.alu.specs.declared.Kind.TheVariants.{Arithmetic, Logic, Comparison}
-use Rattle.alu.specs.declared.Evaluation.TheVariants.{Shown, Refused}
 use Rattle.bits.proofs.Words.{word_lt}
-
--- ---- the table of functions
-
-pub past_last : (f : ℕ) → 27 < f → Logic 0 ≡ function_of f
-past_last f h = sym (get_or-eq_default functions (Logic 0) h)
-
-pub in_table : (f : ℕ) (d : Kind) → f ≤ 27 → get_or functions f d ≡ function_of f
-in_table f d h = get_or-within functions f d (Logic 0) (omega arith)
 
 -- ---- the ports of a kind
 
@@ -71,55 +60,55 @@ pub has_width : (n : ℕ) (q : Bool) → q ≡ is_width n → not q ≡ false �
 has_width n q e h = width_of n (sym e ∙ not-false q h)
 
 module _ (f n l r c : ℕ) (p : Bool) (ep : p ≡ is_function f) where
-  pub no_function_lem : not p ≡ true → 0 ≡ first_out_of_range f n l r c
+  pub no_function_lem : not p ≡ true → Some 0 ≡ first_out_of_range f n l r c
   unfolding first_out_of_range
   no_function_lem h = rw (sym ep ∙ not-true p h) refl
 
   module _ (q : Bool) (eq : q ≡ is_width n) (hp : not p ≡ false) where
-    pub no_width : not q ≡ true → 1 ≡ first_out_of_range f n l r c
+    pub no_width : not q ≡ true → Some 1 ≡ first_out_of_range f n l r c
     unfolding first_out_of_range
     no_width h = rw (sym ep ∙ not-false p hp) (rw (sym eq ∙ not-true q h) refl)
 
     module _ (hq : not q ≡ false) where
-      by_operands : first_out_of_range f n l r c ≡ (if leb (2 ^ n) l then 2 else if leb (2 ^ n) r then 3 else if ltb 1 c then 4 else 5)
+      by_operands : first_out_of_range f n l r c ≡ (if leb (2 ^ n) l then Some 2 else if leb (2 ^ n) r then Some 3 else if ltb 1 c then Some 4 else None)
       unfolding first_out_of_range
       by_operands = rw (sym ep ∙ not-false p hp) (rw (sym eq ∙ not-false q hq) refl)
 
-      pub wide_left : (m : ℕ) → m ≡ 2 ^ n - 1 → m < l → 2 ≡ first_out_of_range f n l r c
+      pub wide_left : (m : ℕ) → m ≡ 2 ^ n - 1 → m < l → Some 2 ≡ first_out_of_range f n l r c
       wide_left m e h = sym (by_operands ∙ rw (le-leb (2 ^ n) l (omega arith)) refl)
 
       module _ (m m' : ℕ) (e : m ≡ 2 ^ n - 1) (e' : m' ≡ 2 ^ n - 1) (hl : l ≤ m) where
         left_fits : leb (2 ^ n) l ≡ false
         left_fits = lt-leb (2 ^ n) l (omega (arith, pow_pos n))
 
-        pub wide_right : m' < r → 3 ≡ first_out_of_range f n l r c
+        pub wide_right : m' < r → Some 3 ≡ first_out_of_range f n l r c
         wide_right h = sym (by_operands ∙ rw left_fits (rw (le-leb (2 ^ n) r (omega arith)) refl))
 
         right_fits : r ≤ m' → leb (2 ^ n) r ≡ false
         right_fits h = lt-leb (2 ^ n) r (omega (arith, pow_pos n))
 
-        pub wide_carry : r ≤ m' → 1 < c → 4 ≡ first_out_of_range f n l r c
+        pub wide_carry : r ≤ m' → 1 < c → Some 4 ≡ first_out_of_range f n l r c
         wide_carry h k = sym (by_operands ∙ rw left_fits (rw (right_fits h) (rw (lt-ltb 1 c k) refl)))
 
-        pub all_in_range : r ≤ m' → c ≤ 1 → 5 ≡ first_out_of_range f n l r c
+        pub all_in_range : r ≤ m' → c ≤ 1 → None ≡ first_out_of_range f n l r c
         all_in_range h k = sym (by_operands ∙ rw left_fits (rw (right_fits h) (rw (le-ltb 1 c k) refl)))
 
--- a function, a width and operands in range have no place out of range before the carry's
-pub in_range_lem : (f n l r c k : ℕ) → k ≡ first_out_of_range f n l r c → 5 ≤ k → Operands n l r
+-- where no place is out of range a width and operands at it are in range
+pub operands_fit : (f n l r c : ℕ) (o : Option ℕ) → o ≡ first_out_of_range f n l r c → o ≡ None → Operands n l r
 unfolding first_out_of_range
-in_range_lem f n l r c k e h =
-    either (λ z. z ≡ k → Operands n l r) (not (is_function f)) (λ _ u. absurd (omega arith))
-    (λ _. either (λ z. z ≡ k → Operands n l r) (not (is_width n)) (λ _ u. absurd (omega arith))
+operands_fit f n l r c o e h =
+    either (λ z. z ≡ None → Operands n l r) (not (is_function f)) (λ _ u. cc)
+    (λ _. either (λ z. z ≡ None → Operands n l r) (not (is_width n)) (λ _ u. cc)
     (λ w. let g = width_of n (not-false (is_width n) w) in
-    either (λ z. z ≡ k → Operands n l r) (leb (2 ^ n) l) (λ _ u. absurd (omega arith))
-    (λ a. either (λ z. z ≡ k → Operands n l r) (leb (2 ^ n) r) (λ _ u. absurd (omega arith))
-    (λ b _. record { least = g.least; most = g.most; left_fits = leb-false (2 ^ n) l a; right_fits = leb-false (2 ^ n) r b })))) (sym e)
+    either (λ z. z ≡ None → Operands n l r) (leb (2 ^ n) l) (λ _ u. cc)
+    (λ a. either (λ z. z ≡ None → Operands n l r) (leb (2 ^ n) r) (λ _ u. cc)
+    (λ b _. record { least = g.least; most = g.most; left_fits = leb-false (2 ^ n) l a; right_fits = leb-false (2 ^ n) r b })))) (sym e ∙ h)
 
-module _ (f n l r c k : ℕ) (e : k ≡ first_out_of_range f n l r c) where
-  pub out_of_range : k < 5 → Refused (refusal 3 k) ≡ evaluation f n l r c
+module _ (f n l r c : ℕ) (o : Option ℕ) (e : o ≡ first_out_of_range f n l r c) where
+  pub out_of_range : (k : ℕ) → o ≡ Some k → Err (refusal 3 k) ≡ evaluation f n l r c
   unfolding evaluation
-  out_of_range h = rw (← e) (rw (lt-ltb k 5 h) refl)
+  out_of_range k h = rw (sym e ∙ h) refl
 
-  pub shown : (K : Kind) (p : Ports) → 5 ≤ k → K ≡ function_of f → p ≡ ports K n l r (eqb c 1) → Shown p ≡ evaluation f n l r c
+  pub shown : (K : Kind) (p : Ports) → o ≡ None → K ≡ function_of f → p ≡ ports K n l r (eqb c 1) → Ok p ≡ evaluation f n l r c
   unfolding evaluation
-  shown K p h ek ep = rw (← e) (rw (le-ltb k 5 h) (ap Shown (ep ∙ ap (λ (x : Kind). ports x n l r (eqb c 1)) ek)))
+  shown K p h ek ep = rw (sym e ∙ h) (ap Ok (ep ∙ ap (λ (x : Kind). ports x n l r (eqb c 1)) ek))

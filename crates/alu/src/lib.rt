@@ -47,41 +47,24 @@ pub enum Kind {
     },
 }
 
-// The evaluator's answer: the ports, or refusal 3 with the place, 0 to 4, of the first value out of range.
-#[derive(Clone, Copy)]
-pub enum Evaluation {
-    Shown(Ports),
-    Refused(Refusal),
-}
-
-// Every value is in range.
-const IN_RANGE: usize = 5;
-
+#[tactic(auto, unfolding(crate::specs::Range::is_function))]
 pub fn is_function(number: u32) -> bool
     ensures { result ≡ R.is_function number }
 {
-    if number < 1 {
-        return false;
-    }
-    number <= FUNCTIONS
+    (1..=FUNCTIONS).contains(&number)
 }
 
+#[tactic(auto, unfolding(crate::specs::Range::is_width))]
 pub fn is_width(n: u32) -> bool
     ensures { result ≡ R.is_width n }
 {
-    if n < 1 {
-        return false;
-    }
-    n <= WIDEST
+    (1..=WIDEST).contains(&n)
 }
 
 // The kind of a function, by its number. LIMPL and RIMPL are those of Table 2.
 pub fn function_of(number: u32) -> Kind
     ensures { result ≡ F.function_of number }
 {
-    if FUNCTIONS < number {
-        return Kind::Logic(0);
-    }
     let functions = [
         Kind::Logic(0),
         Kind::Arithmetic {
@@ -156,7 +139,10 @@ pub fn function_of(number: u32) -> Kind
             greater: false,
         },
     ];
-    functions[number as usize]
+    functions
+        .get(number as usize)
+        .copied()
+        .unwrap_or(Kind::Logic(0))
 }
 
 // The ports that a function drives.
@@ -164,11 +150,7 @@ pub fn drives(kind: Kind) -> PortSet
     ensures { result ≡ F.drives kind }
 {
     match kind {
-        Kind::Arithmetic {
-            left: _,
-            right: _,
-            carry: _,
-        } => PortSet {
+        Kind::Arithmetic { .. } => PortSet {
             o0: true,
             ocout: true,
             ovf: true,
@@ -180,11 +162,7 @@ pub fn drives(kind: Kind) -> PortSet
             ovf: false,
             o1: false,
         },
-        Kind::Comparison {
-            less: _,
-            equal: _,
-            greater: _,
-        } => PortSet {
+        Kind::Comparison { .. } => PortSet {
             o0: false,
             ocout: false,
             ovf: false,
@@ -228,35 +206,40 @@ pub fn ports_of(kind: Kind, n: u32, left: u64, right: u64, carry: bool) -> Ports
     }
 }
 
-// The place of the first value out of range, or IN_RANGE.
-fn first_out_of_range(function: u32, width: u32, left: u64, right: u64, carry: u32) -> usize
+// The place of the first value out of range.
+fn first_out_of_range(function: u32, width: u32, left: u64, right: u64, carry: u32) -> Option<usize>
     ensures { result ≡ E.first_out_of_range function width left right carry }
 {
     if !is_function(function) {
-        return 0;
+        return Some(0);
     }
     if !is_width(width) {
-        return 1;
+        return Some(1);
     }
     if ones(width) < left {
-        return 2;
+        return Some(2);
     }
     if ones(width) < right {
-        return 3;
+        return Some(3);
     }
     if 1 < carry {
-        return 4;
+        return Some(4);
     }
-    IN_RANGE
+    None
 }
 
-// The ports of a function at a width, two operands and a carry.
-pub fn evaluate(function: u32, width: u32, left: u64, right: u64, carry: u32) -> Evaluation
+// The ports of a function at a width, two operands and a carry; or refusal 3 with the place, 0 to 4, of the first value out of range.
+pub fn evaluate(
+    function: u32,
+    width: u32,
+    left: u64,
+    right: u64,
+    carry: u32,
+) -> Result<Ports, Refusal>
     ensures { result ≡ E.evaluation function width left right carry }
 {
-    let place = first_out_of_range(function, width, left, right, carry);
-    if place < IN_RANGE {
-        return Evaluation::Refused(Refusal { number: 3, place });
+    match first_out_of_range(function, width, left, right, carry) {
+        Some(place) => Err(Refusal { number: 3, place }),
+        None => Ok(ports_of(function_of(function), width, left, right, carry == 1)),
     }
-    Evaluation::Shown(ports_of(function_of(function), width, left, right, carry == 1))
 }

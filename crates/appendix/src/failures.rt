@@ -1,13 +1,16 @@
 // Records that do not show what their source function shows, each at the least left, right and carry where it does not.
 ghost use Rattle.std.specs.Prelude.{◌≤◌};
 
-use crate::judged::judged;
-use crate::shown::{Both, alike, at_port, by_library, by_reference};
-use reference::recipe::first_difference;
-use reference::trial::{Operands, ones};
-use testing::names::name_at;
+use crate::judged::{Judged, judge};
+use crate::shown::{Both, at_port, by_library, by_reference};
+use reference::evaluator::Operands;
+use reference::recipe::{Port, first_difference};
+use reference::trial::ones;
 use testing::say;
 use testing::tally::Tally;
+
+// A record of the report's appendix by its name, and its word.
+pub type Record = (&'static str, u32);
 
 // All operands of n bits in turn, by the left one, then the right one, then the carry.
 pub fn operands_at(n: u32, i: u64) -> Operands
@@ -20,71 +23,78 @@ pub fn operands_at(n: u32, i: u64) -> Operands
     }
 }
 
-// The first operands at which the reference finds a difference. Where there are none, those that come first.
-fn least(word: u32, n: u32) -> Operands
+// The first operands at which the reference finds a difference, and the port.
+fn first_failure(word: u32, n: u32) -> Option<(Operands, Port)>
     requires { n ≤ 8 }
 {
-    let end = 2u64 << (2 * n);
-    let mut i: u64 = 0;
-    while i < end {
+    for i in 0..2u64 << (2 * n) {
         let at = operands_at(n, i);
-        if first_difference(word, n, at.left, at.right, at.carry) != 4 {
-            return at;
+        if let Ok(Some(port)) = first_difference(word, n, at) {
+            return Some((at, port));
         }
-        i += 1;
     }
-    operands_at(n, 0)
+    None
 }
 
-const PORTS: [u8; 15] = *b"O0|OCOUT|OVF|O1";
-
-// Writes out a record's word, as docs/BOOK.md has it, and where it fails.
-fn say_place(rt: &HostRuntime, word: u32, n: u32, at: Operands, port: u32) {
-    let mut digits = [b' '; 10];
-    text::put_digits(word as u64, 16, 8, &mut digits, 1);
-    say::text(rt, &digits);
-    say::line(
-        rt,
-        b"width # left # right # carry # port ",
-        &[n as u64, at.left, at.right, at.carry as u64],
-    );
-    say::text(rt, name_at(&PORTS, port as usize));
+fn port_name(port: Port) -> &'static str {
+    match port {
+        Port::O0 => "O0",
+        Port::Ocout => "OCOUT",
+        Port::Ovf => "OVF",
+        Port::O1 => "O1",
+    }
 }
 
 // Writes out what the source and the recipe show at a port.
-fn say_shown(rt: &HostRuntime, form: &[u8], both: Both, port: u32) {
-    let source = both.source;
-    let recipe = both.recipe;
-    say::line(rt, form, &[at_port(source, port), at_port(recipe, port)]);
+fn say_shown(rt: &HostRuntime, form: &[u8], both: Option<Both>, port: Port) {
+    if let Some(both) = both {
+        say::line(
+            rt,
+            form,
+            &[at_port(both.source, port), at_port(both.recipe, port)],
+        );
+    }
 }
 
-// Ends the line of a record at a width. It counts as differing unless both accounts show the same and the judge answers the number.
-fn with_failure(rt: &HostRuntime, tally: Tally, word: u32, n: u32, number: u32) -> Tally
+// The line of a record at a width. It counts as differing unless both accounts show the same and the judge answers as expected.
+fn show_failure(rt: &HostRuntime, tally: &mut Tally, record: Record, n: u32, expected: Judged)
     requires { (1 ≤ n) × (n ≤ 8) }
 {
-    let at = least(word, n);
-    let port = first_difference(word, n, at.left, at.right, at.carry);
+    let (name, word) = record;
+    say::text(rt, name.as_bytes());
+    let _ = print!(rt; " {word:08X} ");
+    say::count(rt, b"width ", n as u64);
+    let Some((at, port)) = first_failure(word, n) else {
+        say::text(rt, b" shows no difference\n");
+        tally.count(false);
+        return;
+    };
     let told = by_library(word, n, at);
     let second = by_reference(word, n, at);
-    let answer = judged(word, n);
-    say_place(rt, word, n, at, port);
+    let answer = judge(word, n);
+    say::line(
+        rt,
+        b" left # right # carry # port ",
+        &[at.left, at.right, at.carry as u64],
+    );
+    say::text(rt, port_name(port).as_bytes());
     say_shown(rt, b": source shows #, recipe shows #", told, port);
     say_shown(rt, b"; by the reference #, #", second, port);
-    say::line(rt, b"; judge: refusal #\n", &[answer as u64]);
-    testing::tally::counted(tally, (port < 4) & alike(told, second) & (answer == number))
+    say::count(
+        rt,
+        b"; judge: refusal ",
+        answer.number().unwrap_or(0) as u64,
+    );
+    say::text(rt, b"\n");
+    tally.count(told.is_some() & (told == second) & (answer == expected));
 }
 
-// Each record at width 1, which is the least, and at width 8. The judge has to answer the number: 10 for wrong, or a refusal's.
-pub fn report_failures(rt: &HostRuntime, name: &[u8], names: &[u8], words: &[u32], number: u32) {
-    let mut tally = testing::tally::none();
-    let mut i = 0;
-    while i < words.len() {
-        say::text(rt, name_at(names, i));
-        let one = with_failure(rt, tally, words[i], 1, number);
-        say::text(rt, name_at(names, i));
-        let eight = with_failure(rt, one, words[i], 8, number);
-        tally = eight;
-        i += 1;
+// Each record at width 1, which is the least, and at width 8.
+pub fn report_failures(rt: &HostRuntime, name: &[u8], records: &[Record], expected: Judged) {
+    let mut tally = Tally::none();
+    for record in records {
+        show_failure(rt, &mut tally, *record, 1, expected);
+        show_failure(rt, &mut tally, *record, 8, expected);
     }
     say::text(rt, name);
     say::report(rt, b", at widths 1 and 8", tally);

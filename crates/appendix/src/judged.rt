@@ -1,13 +1,32 @@
 // What the judge answers, at every width.
 use reference::trial::{Witness, bears_out};
 use testing::say;
-use testing::tally::{Tally, counted};
-use verdict::{Judgement, Verdict};
+use testing::tally::Tally;
+use verdict::Verdict;
 
-// A verdict's number: 0 for right, 10 for wrong, or 99 where the reference does not bear out that it is.
-fn number_of(verdict: Verdict, word: u32, n: u32) -> u32 {
+// Right; wrong, as the reference bears out; wrong, as it does not; or refused with a number.
+#[derive(Clone, Copy, PartialEq, Eq)]
+pub enum Judged {
+    Right,
+    Wrong,
+    NotBorneOut,
+    Refused(u32),
+}
+
+impl Judged {
+    // The number of the refusal, which is 10 for a wrong recipe.
+    pub fn number(self) -> Option<u32> {
+        match self {
+            Judged::Right | Judged::NotBorneOut => None,
+            Judged::Wrong => Some(10),
+            Judged::Refused(number) => Some(number),
+        }
+    }
+}
+
+fn of_verdict(verdict: Verdict, word: u32, n: u32) -> Judged {
     let Verdict::Wrong(witness) = verdict else {
-        return 0;
+        return Judged::Right;
     };
     let shown = bears_out(
         word,
@@ -20,38 +39,33 @@ fn number_of(verdict: Verdict, word: u32, n: u32) -> u32 {
             carry: witness.carry,
         },
     );
-    if shown { 10 } else { 99 }
+    if shown {
+        Judged::Wrong
+    } else {
+        Judged::NotBorneOut
+    }
 }
 
-// A verdict's number, or that of the refusal.
-pub fn judged(word: u32, n: u32) -> u32 {
+pub fn judge(word: u32, n: u32) -> Judged {
     let judgement = verdict::judge(word, n);
     match judgement {
-        Judgement::Decided(verdict) => number_of(verdict, word, n),
-        Judgement::Refused(refusal) => refusal.number,
+        Ok(verdict) => of_verdict(verdict, word, n),
+        Err(refusal) => Judged::Refused(refusal.number),
     }
 }
 
 // A word judged at each width.
-fn judged_everywhere(tally: Tally, word: u32, number: u32) -> Tally {
-    let mut tally = tally;
-    let mut n: u32 = 1;
-    while n <= 64 {
-        let next = counted(tally, judged(word, n) == number);
-        tally = next;
-        n += 1;
+fn judge_everywhere(tally: &mut Tally, word: u32, expected: Judged) {
+    for n in 1..65 {
+        tally.count(judge(word, n) == expected);
     }
-    tally
 }
 
-// Words that have to be judged with one number at every width.
-pub fn report_judged(rt: &HostRuntime, name: &[u8], words: &[u32], number: u32) {
-    let mut tally = testing::tally::none();
-    let mut i = 0;
-    while i < words.len() {
-        let next = judged_everywhere(tally, words[i], number);
-        tally = next;
-        i += 1;
+// Words that have to be judged alike at every width.
+pub fn report_judged(rt: &HostRuntime, name: &[u8], words: &[u32], expected: Judged) {
+    let mut tally = Tally::none();
+    for word in words {
+        judge_everywhere(&mut tally, *word, expected);
     }
     say::text(rt, name);
     say::report(rt, b" at each width from 1 to 64", tally);

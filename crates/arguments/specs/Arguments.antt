@@ -1,31 +1,31 @@
 -- What the programs' arguments mean.
-use Rattle.std.specs.Prelude.{ℕ, ◌+◌, ◌-◌, ◌*◌, Bool, List, [], ◌∷◌, leb, if◌then◌else◌}
+use Rattle.std.specs.Prelude.{ℕ, Option, None, Some, ◌+◌, ◌-◌, ◌*◌, Bool, ◌&&◌, List, [], ◌∷◌, leb, if◌then◌else◌}
+use Rattle.std.specs.Option.{option_and_then}
+use Rattle.std.specs.Str.{bytes_eq}
 use Rattle.alu.specs.Range.{is_width}
-use Rattle.text.specs.Text.{bytes, same}
+use Rattle.text.specs.Text.{bytes}
 use Rattle.arguments.specs.declared.Widths.{Widths}
-use Rattle.arguments.specs.declared.Widths.TheVariants.{At, All, Neither}
+use Rattle.arguments.specs.declared.Widths.TheVariants.{At, All}
 
 abbrev pub is_help : List ℕ → Bool
-is_help argument = same argument (bytes "--help")
+is_help argument = bytes_eq argument (bytes "--help")
 
--- the value of a decimal digit; 10 for another byte
-unfoldable pub decimal_digit : ℕ → ℕ
-decimal_digit b = if leb 48 b then if leb b 57 then b - 48 else 10 else 10
+-- the value of a decimal digit
+unfoldable pub decimal_digit : ℕ → Option ℕ
+decimal_digit b = if leb 48 b && leb b 57 then Some (b - 48) else None
 
 -- a width between 1 and 64, or none
-abbrev pub width_at : ℕ → Widths
-width_at n = if is_width n then At n else Neither
+abbrev pub width_at : ℕ → Option Widths
+width_at n = if is_width n then Some (At n) else None
 
 -- one or two decimal digits
-abbrev pub digits_width : List ℕ → Widths
-digits_width [] = Neither
-digits_width (a ∷ []) = if leb 10 (decimal_digit a) then Neither else width_at (decimal_digit a)
+abbrev pub digits_width : List ℕ → Option Widths
+digits_width [] = None
+digits_width (a ∷ []) = option_and_then width_at (decimal_digit a)
 digits_width (a ∷ b ∷ []) =
-    if leb 10 (decimal_digit a) then Neither
-    else if leb 10 (decimal_digit b) then Neither
-    else width_at (10 * decimal_digit a + decimal_digit b)
-digits_width (a ∷ b ∷ c ∷ more) = Neither
+    option_and_then (λ tens. option_and_then (λ ones. width_at (10 * tens + ones)) (decimal_digit b)) (decimal_digit a)
+digits_width (a ∷ b ∷ c ∷ more) = None
 
 -- judge_rule's WIDTH: "all", or a width in decimal
-unfoldable pub widths_in : List ℕ → Widths
-widths_in argument = if same argument (bytes "all") then All else digits_width argument
+unfoldable pub widths_in : List ℕ → Option Widths
+widths_in argument = if bytes_eq argument (bytes "all") then Some All else digits_width argument

@@ -14,18 +14,14 @@ pub const MOST_BYTES: usize = 4096;
 pub fn put_argument(rt: &HostRuntime, index: usize, out: &mut [u8]) -> usize
     ensures { result ≤ length out.new }
 {
-    match rt.arg(index, out) {
-        Ok(bytes) => bytes,
-        Err(_) => 0,
-    }
+    rt.arg(index, out).unwrap_or(0)
 }
 
 // Whether a program was called with an argument of this index.
 fn has_argument(rt: &HostRuntime, index: usize) -> bool {
     let mut none = [0u8; 1];
     match rt.arg(index, &mut none) {
-        Ok(_) => true,
-        Err(FillError::TooLong) => true,
+        Ok(_) | Err(FillError::TooLong) => true,
         Err(FillError::NotPresent) => false,
     }
 }
@@ -40,18 +36,17 @@ pub fn count(rt: &HostRuntime) -> usize {
     usize::MAX
 }
 
-// judge_rule's WIDTH: one width, every width, or neither.
+// judge_rule's WIDTH: one width, or every width.
 #[derive(Clone, Copy)]
 pub enum Widths {
     At(u32),
     All,
-    Neither,
 }
 
 fn is_help(argument: &[u8]) -> bool
     ensures { result ≡ W.is_help argument.now }
 {
-    text::same(argument, b"--help")
+    argument == b"--help".as_slice()
 }
 
 // Whether the first argument asks for help.
@@ -69,59 +64,45 @@ pub fn usage(rt: &HostRuntime, text: &[u8]) {
     let _ = rt.stderr().write_all(text);
 }
 
-// The value of a decimal digit; 10 for another byte.
-fn decimal_digit(byte: u8) -> u32
+// The value of a decimal digit.
+#[tactic(auto, unfolding(crate::specs::Arguments::decimal_digit))]
+fn decimal_digit(byte: u8) -> Option<u32>
     ensures { result ≡ W.decimal_digit byte }
 {
-    let b = byte as u32;
-    if b < 48 {
-        return 10;
+    match byte {
+        b'0'..=b'9' => Some((byte - b'0') as u32),
+        _ => None,
     }
-    if b <= 57 {
-        return b - 48;
-    }
-    10
 }
 
-fn width_at(n: u32) -> Widths
+fn width_at(n: u32) -> Option<Widths>
     ensures { result ≡ W.width_at n }
 {
     if alu::is_width(n) {
-        return Widths::At(n);
+        return Some(Widths::At(n));
     }
-    Widths::Neither
+    None
 }
 
 // The width of one or two digits.
-fn digits_width(digits: &[u8]) -> Widths
+#[tactic(auto, unfolding(crate::specs::Arguments::decimal_digit))]
+fn digits_width(digits: &[u8]) -> Option<Widths>
     ensures { result ≡ W.digits_width digits.now }
 {
-    if digits.len() < 1 {
-        return Widths::Neither;
+    match digits {
+        [only] => width_at(decimal_digit(*only)?),
+        [first, second] => width_at(10 * decimal_digit(*first)? + decimal_digit(*second)?),
+        _ => None,
     }
-    if 2 < digits.len() {
-        return Widths::Neither;
-    }
-    let first = decimal_digit(digits[0]);
-    if 10 <= first {
-        return Widths::Neither;
-    }
-    if digits.len() < 2 {
-        return width_at(first);
-    }
-    let second = decimal_digit(digits[1]);
-    if 10 <= second {
-        return Widths::Neither;
-    }
-    width_at(10 * first + second)
 }
 
-// What stands for WIDTH.
-pub fn widths_in(argument: &[u8]) -> Widths
+// What stands for WIDTH, if it is a width or all.
+#[tactic(auto, unfolding(crate::specs::Arguments::widths_in))]
+pub fn widths_in(argument: &[u8]) -> Option<Widths>
     ensures { result ≡ W.widths_in argument.now }
 {
-    if text::same(argument, b"all") {
-        return Widths::All;
+    if argument == b"all".as_slice() {
+        return Some(Widths::All);
     }
     digits_width(argument)
 }

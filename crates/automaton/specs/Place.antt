@@ -8,6 +8,7 @@ use Rattle.alu.specs.declared.Kind.{Kind}
 use Rattle.alu.specs.declared.Kind.TheVariants.{Arithmetic, Logic, Comparison}
 use Rattle.binding.specs.declared.Side.{Side}
 use Rattle.automaton.specs.declared.Ripple.{Ripple}
+use Rattle.automaton.specs.declared.Cell.{Cell}
 
 -- a wiring code on one bit of each operand
 abbrev pub wire : ℕ → Bool → Bool → Bool
@@ -62,10 +63,24 @@ top_overflow (Logic v) a x y = false
 top_overflow (Comparison l e g) a x y = false
 
 -- the top bit counts negative, so the top bits change places
+abbrev pub ordered : Bool → Bool → Bool → Ripple → Bool → Bool → Bool
+ordered l e g a x y = if less_at y x a.lo then l else if less_at x y a.hi then g else e
+
 abbrev pub top_order : Kind → Ripple → Bool → Bool → Bool
 top_order (Arithmetic p q k) a x y = false
 top_order (Logic v) a x y = false
-top_order (Comparison l e g) a x y = if less_at y x a.lo then l else if less_at x y a.hi then g else e
+top_order (Comparison l e g) a x y = ordered l e g a x y
+
+-- all of it
+abbrev pub cell : Kind → Ripple → Bool → Bool → Cell
+cell k a x y =
+    record {
+      ripple = step k a x y;
+      bit = out_bit k a x y;
+      carry = top_carry k a x y;
+      overflow = top_overflow k a x y;
+      order = top_order k a x y;
+    }
 
 -- ---- the same of a side, at the bits x and y of left and right
 

@@ -10,7 +10,7 @@ ghost use Rattle.automaton.specs.Machine as M;
 
 use binding::{Recipe, Side};
 use output::Outputs;
-pub use place::same_bit;
+pub use side::cell_of;
 
 // What ripples from place to place of one side: in lo a sum's carry, or that the left word is less so far; in hi that it is greater.
 #[derive(Clone, Copy)]
@@ -44,23 +44,10 @@ pub fn first(s: Side, t: Recipe, carry: bool) -> State
 {
     let target = t.target;
     State {
-        source: side::side_start(s, carry),
-        target: side::side_start(target, carry),
+        source: side::start(s, carry),
+        target: side::start(target, carry),
         any: false,
         all: true,
-    }
-}
-
-// What a side does at the bits x and y of a place.
-pub fn cell_of(s: Side, a: Ripple, x: bool, y: bool) -> Cell
-    ensures { result ≡ M.cell_of s a x y }
-{
-    Cell {
-        ripple: side::side_step(s, a, x, y),
-        bit: side::side_bit(s, a, x, y),
-        carry: side::side_carry(s, a, x, y),
-        overflow: side::side_overflow(s, a, x, y),
-        order: side::side_order(s, a, x, y),
     }
 }
 
@@ -82,7 +69,7 @@ pub fn next(p: Cell, q: Cell, any: bool, all: bool) -> State
 pub fn alike(outputs: Outputs, p: Cell, q: Cell) -> bool
     ensures { result ≡ M.alike_by outputs p q }
 {
-    same_bit(output::shown_bit(outputs.main, q.bit), p.bit)
+    output::shown_bit(outputs.main, q.bit) == p.bit
 }
 
 // Whether all ports agree at the top place.
@@ -90,8 +77,8 @@ pub fn last(outputs: Outputs, p: Cell, q: Cell, any: bool, all: bool) -> bool
     ensures { result ≡ M.last_by outputs p q any all }
 {
     let main = alike(outputs, p, q);
-    let cout = same_bit(output::shown_bit(outputs.cout, q.carry), p.carry);
-    let ovf = same_bit(output::shown_bit(outputs.ovf, q.overflow), p.overflow);
+    let cout = output::shown_bit(outputs.cout, q.carry) == p.carry;
+    let ovf = output::shown_bit(outputs.ovf, q.overflow) == p.overflow;
     let code = output::shown_comparison(
         outputs.code,
         q.order,
@@ -100,5 +87,5 @@ pub fn last(outputs: Outputs, p: Cell, q: Cell, any: bool, all: bool) -> bool
         q.bit,
         q.overflow,
     );
-    main & (cout & (ovf & same_bit(code, p.order)))
+    main & (cout & (ovf & (code == p.order)))
 }

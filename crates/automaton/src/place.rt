@@ -1,10 +1,9 @@
 // One place of a function of a kind: its bits there, and what ripples on.
-ghost use Rattle.std.specs.Prelude.{◌≡◌, if◌then◌else◌};
-ghost use Rattle.std.specs.Bool.{beq};
+ghost use Rattle.std.specs.Prelude.{◌≡◌};
 ghost use Rattle.bits.specs.Vector as F;
 ghost use Rattle.automaton.specs.Place as P;
 
-use crate::Ripple;
+use crate::{Cell, Ripple};
 use alu::Kind;
 
 // A wiring code on one bit of each operand. The rest of the code chooses the bit, its low bit complements it.
@@ -32,34 +31,16 @@ fn less_at(x: bool, y: bool, l: bool) -> bool
     if x { y & l } else { y | l }
 }
 
-pub fn same_bit(x: bool, y: bool) -> bool
-    ensures { result ≡ beq x y }
-{
-    if x { y } else { !y }
-}
-
-fn choose(b: bool, x: bool, y: bool) -> bool
-    ensures { result ≡ (if b then x else y) }
-{
-    if b { x } else { y }
-}
-
 // A vector's bit for two bits.
+#[tactic(auto, unfolding(bits::specs::Bits::bit))]
 fn minterm(vector: u32, x: bool, y: bool) -> bool
     ensures { result ≡ F.minterm vector x y }
 {
-    if x {
-        if y {
-            vector % 2 == 1
-        } else {
-            vector / 2 % 2 == 1
-        }
-    } else {
-        if y {
-            vector / 4 % 2 == 1
-        } else {
-            vector / 8 % 2 == 1
-        }
+    match (x, y) {
+        (true, true) => vector % 2 == 1,
+        (true, false) => vector / 2 % 2 == 1,
+        (false, true) => vector / 4 % 2 == 1,
+        (false, false) => vector / 8 % 2 == 1,
     }
 }
 
@@ -78,122 +59,67 @@ pub fn start(kind: Kind, carry: bool) -> Ripple
     ensures { result ≡ P.start kind carry }
 {
     match kind {
-        Kind::Arithmetic {
-            left: _,
-            right: _,
-            carry: k,
-        } => Ripple {
+        Kind::Arithmetic { carry: k, .. } => Ripple {
             lo: bits::carried(k, carry),
             hi: false,
         },
-        Kind::Logic(_) => still(),
-        Kind::Comparison {
-            less: _,
-            equal: _,
-            greater: _,
-        } => still(),
+        Kind::Logic(_) | Kind::Comparison { .. } => still(),
     }
 }
 
-// After a place.
-pub fn step(kind: Kind, a: Ripple, x: bool, y: bool) -> Ripple
-    ensures { result ≡ P.step kind a x y }
+// What a comparison shows, where x and y are the top bits. The top bit counts negative, so they change places.
+fn top_order(less: bool, equal: bool, greater: bool, a: Ripple, x: bool, y: bool) -> bool
+    ensures { result ≡ P.ordered less equal greater a x y }
+{
+    if less_at(y, x, a.lo) {
+        less
+    } else if less_at(x, y, a.hi) {
+        greater
+    } else {
+        equal
+    }
+}
+
+// What a function does at the bits x and y of its inputs.
+pub fn cell(kind: Kind, a: Ripple, x: bool, y: bool) -> Cell
+    ensures { result ≡ P.cell kind a x y }
 {
     match kind {
-        Kind::Arithmetic {
-            left: p,
-            right: q,
-            carry: _,
-        } => Ripple {
-            lo: majority(wire(p, x, y), wire(q, x, y), a.lo),
-            hi: false,
+        Kind::Arithmetic { left, right, .. } => {
+            let p = wire(left, x, y);
+            let q = wire(right, x, y);
+            let carry = majority(p, q, a.lo);
+            Cell {
+                ripple: Ripple {
+                    lo: carry,
+                    hi: false,
+                },
+                bit: p ^ (q ^ a.lo),
+                carry,
+                overflow: a.lo ^ carry,
+                order: false,
+            }
+        }
+        Kind::Logic(vector) => Cell {
+            ripple: still(),
+            bit: minterm(vector, x, y),
+            carry: false,
+            overflow: false,
+            order: false,
         },
-        Kind::Logic(_) => still(),
-        Kind::Comparison {
-            less: _,
-            equal: _,
-            greater: _,
-        } => Ripple {
-            lo: less_at(x, y, a.lo),
-            hi: less_at(y, x, a.hi),
-        },
-    }
-}
-
-// The bit of O0 at a place.
-pub fn out_bit(kind: Kind, a: Ripple, x: bool, y: bool) -> bool
-    ensures { result ≡ P.out_bit kind a x y }
-{
-    match kind {
-        Kind::Arithmetic {
-            left: p,
-            right: q,
-            carry: _,
-        } => output::exor(wire(p, x, y), output::exor(wire(q, x, y), a.lo)),
-        Kind::Logic(v) => minterm(v, x, y),
-        Kind::Comparison {
-            less: _,
-            equal: _,
-            greater: _,
-        } => false,
-    }
-}
-
-// OCOUT, OVF and O1, where x and y are the top bits.
-pub fn top_carry(kind: Kind, a: Ripple, x: bool, y: bool) -> bool
-    ensures { result ≡ P.top_carry kind a x y }
-{
-    match kind {
-        Kind::Arithmetic {
-            left: p,
-            right: q,
-            carry: _,
-        } => majority(wire(p, x, y), wire(q, x, y), a.lo),
-        Kind::Logic(_) => false,
-        Kind::Comparison {
-            less: _,
-            equal: _,
-            greater: _,
-        } => false,
-    }
-}
-
-pub fn top_overflow(kind: Kind, a: Ripple, x: bool, y: bool) -> bool
-    ensures { result ≡ P.top_overflow kind a x y }
-{
-    match kind {
-        Kind::Arithmetic {
-            left: p,
-            right: q,
-            carry: _,
-        } => output::exor(a.lo, majority(wire(p, x, y), wire(q, x, y), a.lo)),
-        Kind::Logic(_) => false,
-        Kind::Comparison {
-            less: _,
-            equal: _,
-            greater: _,
-        } => false,
-    }
-}
-
-pub fn top_order(kind: Kind, a: Ripple, x: bool, y: bool) -> bool
-    ensures { result ≡ P.top_order kind a x y }
-{
-    match kind {
-        Kind::Arithmetic {
-            left: _,
-            right: _,
-            carry: _,
-        } => false,
-        Kind::Logic(_) => false,
         Kind::Comparison {
             less,
             equal,
             greater,
-        } => choose(
-            less_at(y, x, a.lo),
-            less,
-            choose(less_at(x, y, a.hi), greater, equal),
-        ),
+        } => Cell {
+            ripple: Ripple {
+                lo: less_at(x, y, a.lo),
+                hi: less_at(y, x, a.hi),
+            },
+            bit: false,
+            carry: false,
+            overflow: false,
+            order: top_order(less, equal, greater, a, x, y),
+        },
     }
 }

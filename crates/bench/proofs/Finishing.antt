@@ -8,7 +8,7 @@ use lib.Dec.{eqb}
 use lib.ListN.{length, take, get_or, get_or-append}
 use lib.Seq.{length-take-le}
 use borrow.Author.Tests.{eq-eqb, ne_eqb, eqb-true, not-true, not-false}
-use Rattle.std.specs.Prelude.{if◌then◌else◌}
+use Rattle.std.specs.Prelude.{if◌then◌else◌, Result, Ok, Err}
 use Rattle.words.specs.Field.{source_function}
 use Rattle.words.specs.Kinds.{SOURCE}
 use Rattle.words.specs.Paper.{refusal}
@@ -16,15 +16,11 @@ use Rattle.words.specs.declared.Refusal.{Refusal}
 use Rattle.words.proofs.Choices.{and_split}
 use Rattle.reader.specs.Job.{job_of}
 use Rattle.reader.specs.declared.Job.{Job}
-use Rattle.reader.specs.declared.JobRead.{JobRead}
-use Rattle.reader.specs.declared.JobRead.TheVariants as read
 use Rattle.wellformed.proofs.Parts.{Entry}
 use Rattle.wellformed.proofs.JobWords.{JobFacts, well_formed}
 use Rattle.glue.proofs.Bounds.{glue_fits_lem}
 use Rattle.writer.specs.Asked.{Writable}
 use Rattle.writer.specs.Write.{mapping_words, written_of, lent_after}
-use Rattle.writer.specs.declared.Written.{Written}
-use Rattle.writer.specs.declared.Written.TheVariants as written
 use Rattle.soundness.specs.Sound.{sources_on, targets_on, table_words, filled, empty, entry_sound, bound_sound, glue_on, holds}
 use Rattle.soundness.proofs.Soundness.{sound_holds, sound_sources, sound_width}
 use Rattle.bench.specs.Calls.{sound_bench, bindings_on, gives, unbound_on, finish_written, mapping_on, finish_of, lent_after_finish}
@@ -47,8 +43,8 @@ pub record Job-of (b : Bench) : Type 0 where
 job_of_lem : (b : Bench) → holds b.tables.nsources b.tables.ntargets (job_of (table_words b.tables)) ≡ true → Job-of b
 job_of_lem b = go (job_of (table_words b.tables)) refl
   where
-    go : (r : JobRead) → job_of (table_words b.tables) ≡ r → holds b.tables.nsources b.tables.ntargets r ≡ true → Job-of b
-    go (read.Accepted job) e h =
+    go : (r : Result Job Refusal) → job_of (table_words b.tables) ≡ r → holds b.tables.nsources b.tables.ntargets r ≡ true → Job-of b
+    go (Ok job) e h =
         let q = and_split (eqb job.sources b.tables.nsources) (eqb job.targets b.tables.ntargets) h in
         record {
           job = job;
@@ -56,7 +52,7 @@ job_of_lem b = go (job_of (table_words b.tables)) refl
           sources = eqb-true job.sources b.tables.nsources q.0;
           targets = eqb-true job.targets b.tables.ntargets q.1;
         }
-    go (read.Refused r) e h = absurd (false≢true h)
+    go (Err r) e h = absurd (false≢true h)
 
 module _ (b : Bench) (h : Shaped b) (s : sound_bench b ≡ true) where
   pub the_job : Job-of b
@@ -134,14 +130,14 @@ module _ (b : Bench) (h : Shaped b) (s : sound_bench b ≡ true) where
 
   -- ---- the writing
 
-  module _ (lent : List ℕ) (r : Written) (er : r ≡ written_of (length (take b.tables.nsources b.bound)) lent) where
+  module _ (lent : List ℕ) (r : Result ℕ Refusal) (er : r ≡ written_of (length (take b.tables.nsources b.bound)) lent) where
     answer_written : finish_written r ≡ finish_written (written_of b.tables.nsources lent)
     answer_written = ap finish_written er ∙ ap (λ (x : ℕ). finish_written (written_of x lent)) (sym bound_taken)
 
-    pub words_written_lem : (n : ℕ) → r ≡ written.Words n → Mapping n ≡ finish_written (written_of b.tables.nsources lent)
+    pub words_written_lem : (n : ℕ) → r ≡ Ok n → Mapping n ≡ finish_written (written_of b.tables.nsources lent)
     words_written_lem n e = ap finish_written (sym e) ∙ answer_written
 
-    pub words_lacking : (n : Refusal) → r ≡ written.Refused n → Refused n ≡ finish_written (written_of b.tables.nsources lent)
+    pub words_lacking : (n : Refusal) → r ≡ Err n → Refused n ≡ finish_written (written_of b.tables.nsources lent)
     words_lacking n e = ap finish_written (sym e) ∙ answer_written
 
   pub mapping_laid : unbound_on b ≡ 0 → (lent m : List ℕ)

@@ -1,6 +1,6 @@
 -- Document 01, "Mapper and bench" and "Refusals that come from the state", and requests #102 and #103: what each call answers, and the
 -- bench afterwards.
-use Rattle.std.specs.Prelude.{ℕ, ◌≡◌, Bool, not, List, [], ◌∷◌, eqb, set, replicate, if◌then◌else◌}
+use Rattle.std.specs.Prelude.{ℕ, ◌≡◌, Bool, not, List, [], ◌∷◌, eqb, set, replicate, if◌then◌else◌, Result, Ok, Err}
 use Rattle.words.specs.Paper.{Paper, refusal, no_refusal, source_place, accepted, told}
 use Rattle.alu.specs.Function.{no_function}
 use Rattle.recipe.specs.Fields.{source_of}
@@ -10,13 +10,10 @@ use Rattle.verdict.specs.Verdicts.{Differs, wrong_paper, Ruling, Gives, Names}
 use Rattle.sequence.specs.Limits.{most_sources}
 use Rattle.reader.specs.Job.{job_of}
 use Rattle.reader.specs.declared.Job.{Job}
-use Rattle.reader.specs.declared.JobRead.{JobRead}
-use Rattle.reader.specs.declared.JobRead.TheVariants as read
+use Rattle.words.specs.declared.Refusal.{Refusal}
 use Rattle.table.specs.Table.{in_job}
 use Rattle.claims.specs.Claim.{claim_in}
 use Rattle.writer.specs.Write.{mapping_words, written_of, lent_after}
-use Rattle.writer.specs.declared.Written.{Written}
-use Rattle.writer.specs.declared.Written.TheVariants as written
 use Rattle.soundness.specs.Sound.{nothing, filled, sources_on, targets_on, rule_fault, glue_on, is_sound}
 use Rattle.soundness.specs.declared.Tables.{Tables}
 use Rattle.opening.specs.Opening.{tables_in, tables_of_zeros}
@@ -71,9 +68,9 @@ opened ws job = empty_bench (tables_in ws job)
 abbrev pub bench_of_zeros : Bench
 bench_of_zeros = empty_bench tables_of_zeros
 
-abbrev pub open_for : List ℕ → JobRead → After
-open_for ws (read.Refused r) = gives bench_of_zeros (Refused r)
-open_for ws (read.Accepted job) = gives (opened ws job) Done
+abbrev pub open_for : List ℕ → Result Job Refusal → After
+open_for ws (Err r) = gives bench_of_zeros (Refused r)
+open_for ws (Ok job) = gives (opened ws job) Done
 
 unfoldable pub open_of : List ℕ → After
 open_of ws = open_for ws (job_of ws)
@@ -143,9 +140,9 @@ abbrev pub unbound_on : Bench → ℕ
 unbound_on b = first_empty (sources_on b.tables) b.bound
 
 -- "Lent words fewer than sources + 2; place: words needed."
-abbrev pub finish_written : Written → Answer
-finish_written (written.Refused r) = Refused r
-finish_written (written.Words n) = Mapping n
+abbrev pub finish_written : Result ℕ Refusal → Answer
+finish_written (Err r) = Refused r
+finish_written (Ok n) = Mapping n
 
 -- "header, 0 to 27 bindings, glue count", which is the stored one
 abbrev pub mapping_on : Bench → List ℕ

@@ -8,12 +8,10 @@ ghost use Rattle.std.specs.Prelude.{◌≡◌, true};
 ghost use Rattle.writer.specs.Write as W;
 ghost use Rattle.bench.specs.Calls as C;
 
-use reader::JobRead;
 use sequence::MOST_SOURCES;
 use soundness::{NOTHING, Tables};
 use verdict::Verdict;
 use words::{Refusal, Witness};
-use writer::Written;
 
 // A job's tables, an entry for each source, in table order, for what is bound to it, and the glue count of what is bound.
 #[derive(Clone, Copy)]
@@ -69,10 +67,9 @@ fn write(bench: Bench, lent: &mut [u32]) -> Answer
     let tables = bench.tables;
     let nsources = tables.nsources as usize;
     let bound = bench.bound;
-    let written = writer::write_mapping(tables.width, &bound[..nsources], bench.glue, lent);
-    match written {
-        Written::Refused(refusal) => Answer::Refused(refusal),
-        Written::Words(count) => Answer::Mapping(count),
+    match writer::write_mapping(tables.width, &bound[..nsources], bench.glue, lent) {
+        Err(refusal) => Answer::Refused(refusal),
+        Ok(count) => Answer::Mapping(count),
     }
 }
 
@@ -81,13 +78,12 @@ impl Bench {
     pub fn open(words: &[u32]) -> After
         ensures { result ≡ C.open_of words.now }
     {
-        let read = reader::read_job(words);
-        match read {
-            JobRead::Refused(refusal) => After {
+        match reader::read_job(words) {
+            Err(refusal) => After {
                 bench: zeros(),
                 answer: Answer::Refused(refusal),
             },
-            JobRead::Accepted(job) => After {
+            Ok(job) => After {
                 bench: empty_bench(opening::tables_of(words, job)),
                 answer: Answer::Done,
             },

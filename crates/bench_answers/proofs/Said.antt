@@ -20,7 +20,7 @@ use Rattle.bench.specs.declared.Bench.{Bench}
 use Rattle.bench.specs.declared.After.{After}
 use Rattle.bench.specs.declared.Answer.{Answer}
 use Rattle.bench.specs.declared.Answer.TheVariants.{Done, Count, Mapping, Refused, Wrong}
-use Rattle.bench_answers.specs.Answers.{answered, PutsAnswer, SaysCall, open_input, SaysOpened, SaysInput, bench_text, SaysText, Says}
+use Rattle.bench_answers.specs.Answers.{answered, PutsAnswer, SaysCall, open_input, SaysOpened, SaysInput, bench_text, SaysText, SaysCommand}
 use Rattle.bench_answers.specs.Asked.{RoomFor}
 use Rattle.bench_answers.specs.declared.Answered.{Answered}
 use Rattle.bench_answers.specs.declared.Opened.{Opened}
@@ -68,29 +68,26 @@ module _ (call : After) (done lent out after : List ℕ) (said : Answered) (p : 
 -- ---- a command
 
 module _ (b : Bench) (lent out after : List ℕ) (r : Worked) where
-  pub says_pass : (c : Command) → c ≡ command.Pass → SaysText [] out after b r → Says c b lent lent out after r
+  pub says_pass : (c : Command) → c ≡ command.Pass → SaysText [] out after b r → SaysCommand c b lent lent out after r
   says_pass c e s = rw e (refl, s)
 
-  pub says_unknown : (c : Command) → c ≡ command.Unknown → SaysText (bytes "NOT A COMMAND\n") out after b r → Says c b lent lent out after r
-  says_unknown c e s = rw e (refl, s)
-
-  pub says_show : (c : Command) → c ≡ command.Show → SaysText (bench_text b) out after b r → Says c b lent lent out after r
+  pub says_show : (c : Command) → c ≡ command.Show → SaysText (bench_text b) out after b r → SaysCommand c b lent lent out after r
   says_show c e s = rw e (refl, s)
 
   pub says_bind : (c : Command) (w : ℕ) (call : After) → c ≡ command.Bind w → Binds b w call
-      → SaysCall call (bytes "BOUND\n") lent out after r → Says c b lent lent out after r
+      → SaysCall call (bytes "BOUND\n") lent out after r → SaysCommand c b lent lent out after r
   says_bind c w call e h s = rw e (refl, record { call = call; binds = h; said = s })
 
   pub says_release : (c : Command) (f : ℕ) (call : After) → c ≡ command.Release f → call ≡ release_of b f
-      → SaysCall call (bytes "RELEASED\n") lent out after r → Says c b lent lent out after r
+      → SaysCall call (bytes "RELEASED\n") lent out after r → SaysCommand c b lent lent out after r
   says_release c f call e h s = rw e (refl, subst (λ (x : After). SaysCall x (bytes "RELEASED\n") lent out after r) h s)
 
   pub says_price : (c : Command) (call : After) → c ≡ command.Price → call ≡ price_of b → SaysCall call [] lent out after r
-      → Says c b lent lent out after r
+      → SaysCommand c b lent lent out after r
   says_price c call e h s = rw e (refl, subst (λ (x : After). SaysCall x [] lent out after r) h s)
 
   pub says_finish : (c : Command) (call : After) (now : List ℕ) → c ≡ command.Finish → call ≡ finish_of b lent
-      → now ≡ lent_after_finish b lent → SaysCall call [] now out after r → Says c b lent now out after r
+      → now ≡ lent_after_finish b lent → SaysCall call [] now out after r → SaysCommand c b lent now out after r
   says_finish c call now e h l s =
       rw e (
         l,

@@ -7,7 +7,7 @@ use native.Mathlib.Omega.{arith}
 use borrow.Author.Tests.{ltb-false}
 use lib.Dec.{eqb, ltb}
 use lib.ListN.{length}
-use Rattle.std.specs.Prelude.{if◌then◌else◌}
+use Rattle.std.specs.Prelude.{if◌then◌else◌, Result, Ok, Err}
 use Rattle.words.specs.Paper.{refusal, no_refusal, source_place}
 use Rattle.words.proofs.Choices.{either}
 use Rattle.alu.specs.Function.{no_function}
@@ -16,11 +16,9 @@ use Rattle.binding.specs.Right.{is_right}
 use Rattle.binding.specs.declared.Claim.{Claim}
 use Rattle.verdict.specs.Verdicts.{Ruling, Gives, Names}
 use Rattle.reader.specs.Job.{job_of}
-use Rattle.reader.specs.declared.JobRead.{JobRead}
-use Rattle.reader.specs.declared.JobRead.TheVariants as read
+use Rattle.reader.specs.declared.Job.{Job}
+use Rattle.words.specs.declared.Refusal.{Refusal}
 use Rattle.writer.specs.Write.{words_needed, written_of}
-use Rattle.writer.specs.declared.Written.{Written}
-use Rattle.writer.specs.declared.Written.TheVariants as written
 use Rattle.soundness.specs.Sound.{nothing}
 use Rattle.input.specs.declared.Input.{Input}
 use Rattle.bench.specs.Calls.{sound_bench, gives, bench_of_zeros, open_for, open_of, bind_fault, bind_place, claim_on, bound_at, entry_for, has_binding, bind_of, WrongAt, BindRuled, Binds, release_of, price_of, unbound_on, finish_written, finish_of}
@@ -33,9 +31,9 @@ use Rattle.bench_answers.specs.declared.Worked.{Worked}
 
 -- ---- open
 
-open_none_for : (ws : List ℕ) (r : JobRead) → words_finished (open_for ws r).answer ≡ 0
-open_none_for ws (read.Refused r) = refl
-open_none_for ws (read.Accepted job) = refl
+open_none_for : (ws : List ℕ) (r : Result Job Refusal) → words_finished (open_for ws r).answer ≡ 0
+open_none_for ws (Err r) = refl
+open_none_for ws (Ok job) = refl
 
 open_none : (job : List ℕ) (input : Input) → words_finished (open_input job input).answer ≡ 0
 unfolding open_input open_of
@@ -108,8 +106,8 @@ price_within b lent r e =
 written_within : (sources : ℕ) (lent : List ℕ) → words_finished (finish_written (written_of sources lent)) ≤ length lent
 unfolding written_of
 written_within sources lent =
-    either (λ (w : Written). words_finished (finish_written w) ≤ length lent) (ltb (length lent) (words_needed sources))
-    {x = written.Refused (refusal 23 (words_needed sources))} {y = written.Words (words_needed sources)}
+    either (λ (w : Result ℕ Refusal). words_finished (finish_written w) ≤ length lent) (ltb (length lent) (words_needed sources))
+    {x = Err (refusal 23 (words_needed sources))} {y = Ok (words_needed sources)}
     (λ _. omega arith) (λ e. ltb-false (length lent) (words_needed sources) e)
 
 pub finish_within : (b : Bench) (lent after : List ℕ) (r : After) → r ≡ finish_of b lent → length after ≡ length lent

@@ -1,5 +1,5 @@
 -- What work_bench says of its job's file and of each command: OPENED, BOUND, RELEASED, map_job's lines, GLUE and the count, or the refusal.
-use Rattle.std.specs.Prelude.{ℕ, ◌≡◌, Bool, true, false, List, [], ◌∷◌, ◌++◌, eqb, take, if◌then◌else◌}
+use Rattle.std.specs.Prelude.{ℕ, Option, None, Some, ◌≡◌, Bool, true, false, List, [], ◌∷◌, ◌++◌, eqb, take, if◌then◌else◌}
 use Rattle.words.specs.Field.{source_function}
 use Rattle.words.specs.Paper.{refusal}
 use Rattle.text.specs.Text.{Puts, bytes, name_of}
@@ -107,13 +107,17 @@ pub record SaysBind (b : Bench) (word : ℕ) (lent out after : List ℕ) (r : Wo
   pub said : SaysCall call (bytes "BOUND\n") lent out after r
 
 -- what a command says, and the lent words afterwards
-abbrev pub Says : Command → Bench → List ℕ → List ℕ → List ℕ → List ℕ → Worked → Type 0
-Says command.Pass b lent lent_after out after r = (lent_after ≡ lent) × SaysText [] out after b r
-Says (command.Bind w) b lent lent_after out after r = (lent_after ≡ lent) × SaysBind b w lent out after r
-Says (command.Release f) b lent lent_after out after r =
+abbrev pub SaysCommand : Command → Bench → List ℕ → List ℕ → List ℕ → List ℕ → Worked → Type 0
+SaysCommand command.Pass b lent lent_after out after r = (lent_after ≡ lent) × SaysText [] out after b r
+SaysCommand (command.Bind w) b lent lent_after out after r = (lent_after ≡ lent) × SaysBind b w lent out after r
+SaysCommand (command.Release f) b lent lent_after out after r =
     (lent_after ≡ lent) × SaysCall (release_of b f) (bytes "RELEASED\n") lent out after r
-Says command.Price b lent lent_after out after r = (lent_after ≡ lent) × SaysCall (price_of b) [] lent out after r
-Says command.Show b lent lent_after out after r = (lent_after ≡ lent) × SaysText (bench_text b) out after b r
-Says command.Finish b lent lent_after out after r =
+SaysCommand command.Price b lent lent_after out after r = (lent_after ≡ lent) × SaysCall (price_of b) [] lent out after r
+SaysCommand command.Show b lent lent_after out after r = (lent_after ≡ lent) × SaysText (bench_text b) out after b r
+SaysCommand command.Finish b lent lent_after out after r =
     (lent_after ≡ lent_after_finish b lent) × SaysCall (finish_of b lent) [] (lent_after_finish b lent) out after r
-Says command.Unknown b lent lent_after out after r = (lent_after ≡ lent) × SaysText (bytes "NOT A COMMAND\n") out after b r
+
+-- what a line says
+abbrev pub Says : Option Command → Bench → List ℕ → List ℕ → List ℕ → List ℕ → Worked → Type 0
+Says (Some c) b lent lent_after out after r = SaysCommand c b lent lent_after out after r
+Says None b lent lent_after out after r = (lent_after ≡ lent) × SaysText (bytes "NOT A COMMAND\n") out after b r

@@ -113,10 +113,8 @@ fn put_entries(sources: &[u32], bound: &[u32], out: &mut [u8]) -> usize
     ensures text { P.Puts out.old 0 (S.entry_lines sources.now bound.now) out.new result }
 {
     let mut at = 0;
-    let mut i = 0;
-    while i < sources.len() {
-        at = entry_line(sources[i], bound[i], out, at);
-        i += 1;
+    for (i, source) in sources.iter().enumerate() {
+        at = entry_line(*source, bound[i], out, at);
     }
     at
 }
@@ -166,10 +164,10 @@ fn show(bench: Bench, out: &mut [u8]) -> Worked
 }
 
 // What is said of a command. A mapping is written into lent words.
-pub fn work(bench: Bench, command: Command, lent: &mut [u32], out: &mut [u8]) -> Worked
+fn obey(bench: Bench, command: Command, lent: &mut [u32], out: &mut [u8]) -> Worked
     requires { Q.Room lent.old out.old }
     ensures fits { (result.bytes ≤ length out.old) × (result.words ≤ length lent.old) }
-    ensures said { S.Says command bench lent.old lent.new out.old out.new result }
+    ensures said { S.SaysCommand command bench lent.old lent.new out.old out.new result }
 {
     match command {
         Command::Pass => say_text(bench, b"", out),
@@ -190,7 +188,18 @@ pub fn work(bench: Bench, command: Command, lent: &mut [u32], out: &mut [u8]) ->
             let call = bench.finish(lent);
             say(call, b"", lent, out)
         }
-        Command::Unknown => say_text(bench, b"NOT A COMMAND\n", out),
+    }
+}
+
+// What is said of a line: of its command, or that it is none.
+pub fn work(bench: Bench, command: Option<Command>, lent: &mut [u32], out: &mut [u8]) -> Worked
+    requires { Q.Room lent.old out.old }
+    ensures fits { (result.bytes ≤ length out.old) × (result.words ≤ length lent.old) }
+    ensures said { S.Says command bench lent.old lent.new out.old out.new result }
+{
+    match command {
+        Some(command) => obey(bench, command, lent, out),
+        None => say_text(bench, b"NOT A COMMAND\n", out),
     }
 }
 

@@ -2,20 +2,17 @@
 use crate::files::{LENT, lent_holds};
 use accounts::sound::{BENCH_WORDS, BOUND, GLUE, NSOURCES, NTARGETS, TARGETS, WIDTH};
 use bench::{After, Bench};
-use checker::Checked;
-use reference::answer::{Answer, DONE, OF_WORD, PRICED, WRITTEN, answered, wrong};
+use reference::answer::{Answer, Given, Subject, refused, wrong};
 use reference::trial::{Witness, bears_out};
 use soundness::Tables;
-use testing::words::{at, put};
+use testing::words::after;
 use words::Prices;
 
 // The 27 words of a bench from an index on.
-fn table_of(words: [u32; BENCH_WORDS], from: usize) -> [u32; 27] {
+fn table_of(words: &[u32], from: usize) -> [u32; 27] {
     let mut table = [0u32; 27];
-    let mut i = 0;
-    while i < 27 {
-        table[i] = at(&words, std::num::wrapping_add_usize(from, i));
-        i += 1;
+    for (entry, word) in table.iter_mut().zip(after(words, from)) {
+        *entry = *word;
     }
     table
 }
@@ -29,24 +26,22 @@ fn bench_of(words: [u32; BENCH_WORDS]) -> Bench {
     let tables = Tables {
         width: words[WIDTH],
         prices,
-        sources: table_of(words, 0),
+        sources: table_of(&words, 0),
         nsources: words[NSOURCES],
-        targets: table_of(words, TARGETS),
+        targets: table_of(&words, TARGETS),
         ntargets: words[NTARGETS],
     };
     Bench {
         tables,
-        bound: table_of(words, BOUND),
+        bound: table_of(&words, BOUND),
         glue: words[GLUE],
     }
 }
 
 // Sets the words of a bench from an index on.
 fn put_table(words: &mut [u32], from: usize, table: [u32; 27]) {
-    let mut i = 0;
-    while i < 27 {
-        put(words, std::num::wrapping_add_usize(from, i), table[i]);
-        i += 1;
+    for (word, entry) in words.iter_mut().skip(from).zip(table) {
+        *word = entry;
     }
 }
 
@@ -88,12 +83,16 @@ fn is_shown(rule: u32, n: u32, witness: words::Witness) -> bool {
 // The answer to a call with a rule, 0 where it has none, on a bench of a width.
 fn of_answer(answer: bench::Answer, rule: u32, n: u32) -> Answer {
     match answer {
-        bench::Answer::Done => answered(DONE, 0, 0),
-        bench::Answer::Count(count) => answered(PRICED, 0, count as usize),
-        bench::Answer::Mapping(size) => answered(WRITTEN, 0, size),
-        bench::Answer::Refused(refusal) => answered(OF_WORD, refusal.number, refusal.place),
+        bench::Answer::Done => Ok(Given::Nothing),
+        bench::Answer::Count(count) => Ok(Given::Count(count as u64)),
+        bench::Answer::Mapping(size) => Ok(Given::Words(size)),
+        bench::Answer::Refused(refusal) => Err(refused(
+            Subject::Word,
+            refusal.number,
+            refusal.place,
+        )),
         bench::Answer::Wrong(witness) => {
-            wrong(OF_WORD, witness.function, is_shown(rule, n, witness))
+            Err(wrong(Subject::Word, witness.function, is_shown(rule, n, witness)))
         }
     }
 }
@@ -147,10 +146,7 @@ fn finish_into(words: [u32; BENCH_WORDS], lent: &mut [u32]) -> Told {
 // Finishes into so many lent words, 32 at most.
 pub fn finish(words: [u32; BENCH_WORDS], size: usize) -> Told {
     let mut lent = [LENT; 32];
-    if size < 32 {
-        return finish_into(words, &mut lent[..size]);
-    }
-    finish_into(words, &mut lent)
+    finish_into(words, &mut lent[..size.min(32)])
 }
 
 // Whether the checker accepts the words that a bench of the printed job writes.
@@ -159,9 +155,5 @@ pub fn is_accepted(words: [u32; BENCH_WORDS]) -> bool {
     let mut lent = [LENT; 6];
     let after = bench.finish(&mut lent);
     let checked = checker::check(&testing::words::JOB, &lent);
-    if let Checked::Accepted = checked {
-        true
-    } else {
-        false
-    }
+    if let Ok(()) = checked { true } else { false }
 }

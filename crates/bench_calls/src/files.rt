@@ -1,7 +1,6 @@
 // The rules of the mapping that document 01 prints, benches put together without the library, and words beside each other.
 use accounts::sound::{BENCH_WORDS, BOUND, GLUE, NSOURCES, NTARGETS, TARGETS, WIDTH, count_on};
-use std::num::wrapping_add_usize;
-use testing::words::{MAPPING, at, put, word_of};
+use testing::words::{MAPPING, after, first, put, word_of};
 
 // In the order of the printed job's sources.
 pub const ADD_RULE: u32 = 0x5085_4960;
@@ -21,12 +20,39 @@ pub const WRONG_LT_RULE: u32 = 0x5C89_4407;
 pub const LENT: u32 = 0xEEEE_EEEE;
 
 // A set of what is bound, by bits: the four rules in order, and the wrong rule instead of LT's.
-pub const ADD_AND_LT: u32 = 13;
+pub const ADD: u32 = 1;
+
+pub const RSUB: u32 = 2;
+
+pub const AND: u32 = 4;
+
+pub const LT: u32 = 8;
 
 pub const ALL: u32 = 15;
 
-// Among the sets: the job of LT and, as its target, RINHI, with nothing bound.
-pub const INHIBIT: u32 = 32;
+pub const WRONG_LT: u32 = 16;
+
+// A bench that is put together.
+#[derive(Clone, Copy)]
+pub enum Made {
+    // All words 0.
+    Zeros,
+    // Of the printed job, at a width, with a set of rules bound.
+    Printed(u32, u32),
+    // Of the job of LT and, as its target, RINHI, at a width, with nothing bound.
+    Inhibit(u32),
+}
+
+impl Made {
+    // As the second account has benches, with the count of what is bound.
+    pub fn words(self) -> [u32; BENCH_WORDS] {
+        match self {
+            Made::Zeros => [0u32; BENCH_WORDS],
+            Made::Printed(width, bound) => printed_bench(width, bound),
+            Made::Inhibit(width) => inhibit_bench(width, 0),
+        }
+    }
+}
 
 // A bench with the count of what is bound to it, whatever it stored.
 pub fn counted(bench: [u32; BENCH_WORDS]) -> [u32; BENCH_WORDS] {
@@ -35,7 +61,6 @@ pub fn counted(bench: [u32; BENCH_WORDS]) -> [u32; BENCH_WORDS] {
     words
 }
 
-// The bench of the printed job at a width, with a set of rules bound.
 fn printed_bench(width: u32, bound: u32) -> [u32; BENCH_WORDS] {
     let mut words = [0u32; BENCH_WORDS];
     words[0] = 0x3000_0001;
@@ -54,18 +79,11 @@ fn printed_bench(width: u32, bound: u32) -> [u32; BENCH_WORDS] {
     counted(words)
 }
 
-// The rule by its index, where b, or 0.
-fn rule_if(b: bool, i: usize) -> u32 {
-    if b { at(&RULES, i) } else { 0 }
-}
-
 fn bind_set(words: &mut [u32], bound: u32) {
     let mut rest = bound;
-    let mut i = 0;
-    while i < 4 {
-        put(words, i + BOUND, rule_if(rest % 2 == 1, i));
+    for (i, rule) in RULES.iter().enumerate() {
+        put(words, i + BOUND, if rest % 2 == 1 { *rule } else { 0 });
         rest = rest / 2;
-        i += 1;
     }
     if rest == 1 {
         put(words, 57, WRONG_LT_RULE);
@@ -84,24 +102,10 @@ pub fn inhibit_bench(width: u32, word: u32) -> [u32; BENCH_WORDS] {
     counted(words)
 }
 
-// A bench at a width by a set of what is bound; width 0 stands for the bench of zeros.
-pub fn bench_with(width: u32, bound: u32) -> [u32; BENCH_WORDS] {
-    if width == 0 {
-        return [0u32; BENCH_WORDS];
-    }
-    if bound == INHIBIT {
-        return inhibit_bench(width, 0);
-    }
-    printed_bench(width, bound)
-}
-
 // Sets the words of a kind for all functions, from an index on.
 fn put_functions(words: &mut [u32], from: usize, kind: u32) {
-    let mut i: u32 = 0;
-    while i < 27 {
-        let index = wrapping_add_usize(from, i as usize);
-        put(words, index, word_of(kind, i + 1));
-        i += 1;
+    for (word, function) in words.iter_mut().skip(from).zip(1..28) {
+        *word = word_of(kind, function);
     }
 }
 
@@ -120,26 +124,9 @@ pub fn whole_bench(width: u32) -> [u32; BENCH_WORDS] {
     counted(words)
 }
 
-pub fn same_bench(one: &[u32; BENCH_WORDS], other: &[u32; BENCH_WORDS]) -> bool {
-    let mut i = 0;
-    while i < BENCH_WORDS {
-        if one[i] != other[i] {
-            return false;
-        }
-        i += 1;
-    }
-    true
-}
-
 // Whether so many words of the printed mapping stand in lent words, and nothing past them.
 pub fn lent_holds(lent: &[u32], size: usize) -> bool {
-    let mut i = 0;
-    while i < lent.len() {
-        let expected = if i < size { at(&MAPPING, i) } else { LENT };
-        if at(lent, i) != expected {
-            return false;
-        }
-        i += 1;
-    }
     size <= lent.len()
+        && first(lent, size) == first(&MAPPING, size)
+        && after(lent, size).iter().all(|word| *word == LENT)
 }

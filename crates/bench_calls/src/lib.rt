@@ -5,3 +5,4 @@
 pub mod calls;
 pub mod files;
 pub mod lines;
+pub mod steps;

@@ -1,24 +1,23 @@
 // What the program writes of an answer.
-use reference::answer::{Answer, DONE};
-use testing::names::name_at;
+use reference::answer::{Answer, Given};
 use testing::say;
-
-// The forms from DONE on.
-const FORMS: [u8; 34] = *b": done|: price #|: words written #";
 
 // After a name. Of refusal 10 the function; the operands are the program's choice.
 pub fn answer(rt: &HostRuntime, name: &[u8], told: Answer) {
     say::text(rt, name);
-    let place = told.place as u64;
-    if told.number != 0 {
-        say::line(rt, b": refused # #", &[told.number as u64, place]);
-        return;
+    match told {
+        Ok(Given::Nothing) => say::text(rt, b": done"),
+        Ok(Given::Count(count)) => say::count(rt, b": price ", count),
+        Ok(Given::Words(size)) => say::count(rt, b": words written ", size as u64),
+        Err(refusal) => say::line(
+            rt,
+            b": refused # #",
+            &[refusal.number as u64, refusal.place as u64],
+        ),
     }
-    let form = std::num::wrapping_sub_u32(told.form, DONE) as usize;
-    say::line(rt, name_at(&FORMS, form), &[place]);
 }
 
-// The first of two names where something is as it should be, else the second.
-pub fn whether(rt: &HostRuntime, b: bool, names: &[u8]) {
-    say::text(rt, name_at(names, !b as usize));
+// What is said where something is as it should be, else what is said where it is not.
+pub fn whether(rt: &HostRuntime, b: bool, so: &[u8], not: &[u8]) {
+    say::text(rt, if b { so } else { not });
 }

@@ -1,7 +1,7 @@
 // The bench of the printed job with all bound, handed in with counts that are its own and others.
 use accounts::sound::{BENCH_WORDS, GLUE};
 use bench_calls::calls::Told;
-use bench_calls::files::{ADD_RULE, ALL, bench_with, same_bench};
+use bench_calls::files::{ADD_RULE, ALL, Made};
 use bench_calls::{calls, lines};
 use testing::say;
 
@@ -11,13 +11,12 @@ const COUNTS: [u32; 8] = [148, 147, 149, 0, 0xFFFF_FFFF, 76, 157, 0x8000_0094];
 // What a call says, and whether the bench and the lent words are as they were.
 fn show_call(rt: &HostRuntime, name: &[u8], told: Told, bench: [u32; BENCH_WORDS]) {
     let answer = told.answer;
-    let next = told.bench;
     lines::answer(rt, name, answer);
-    lines::whether(rt, same_bench(&next, &bench) & told.untouched, b" kept|");
+    lines::whether(rt, (told.bench == bench) & told.untouched, b" kept", b"");
 }
 
 fn show_count(rt: &HostRuntime, count: u32) {
-    let mut bench = bench_with(16, ALL);
+    let mut bench = Made::Printed(16, ALL).words();
     bench[GLUE] = count;
     say::count(rt, b"    stored ", count as u64);
     show_call(rt, b", bind", calls::bind(bench, ADD_RULE), bench);
@@ -29,9 +28,7 @@ fn show_count(rt: &HostRuntime, count: u32) {
 
 pub fn report(rt: &HostRuntime) {
     say::text(rt, b"the printed job bound, with a count\n");
-    let mut i = 0;
-    while i < 8 {
-        show_count(rt, COUNTS[i]);
-        i += 1;
+    for count in COUNTS {
+        show_count(rt, count);
     }
 }

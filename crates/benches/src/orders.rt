@@ -2,8 +2,8 @@
 use crate::runs::{Run, begun, with_bound};
 use accounts::sound::BENCH_WORDS;
 use bench_calls::calls;
-use bench_calls::files::{ALL, RULES, bench_with, same_bench};
-use reference::answer::{WRITTEN, answered, same_answer};
+use bench_calls::files::{ALL, Made, RULES};
+use reference::answer::Given;
 use testing::say;
 use testing::tally::more;
 
@@ -20,7 +20,7 @@ struct Orders {
 pub fn writes_the_mapping(bench: [u32; BENCH_WORDS]) -> bool {
     let finished = calls::finish(bench, 6);
     let told = finished.answer;
-    same_answer(told, answered(WRITTEN, 0, 6)) & finished.printed
+    (told == Ok(Given::Words(6))) & finished.printed
 }
 
 // The digits to base 4 of a number name the rules one after another, the lowest first. Whether each rule is named once.
@@ -34,13 +34,10 @@ fn is_order(code: u32) -> bool {
 fn bound_in(code: u32) -> Run {
     let mut run = begun();
     let mut rest = code;
-    let mut i: u32 = 0;
-    while i < 4 {
+    for _ in 0..4 {
         let rule = (rest % 4) as usize;
-        let next = with_bound(run, RULES[rule]);
-        run = next;
+        run = with_bound(run, RULES[rule]);
         rest = rest / 4;
-        i += 1;
     }
     run
 }
@@ -48,11 +45,11 @@ fn bound_in(code: u32) -> Run {
 fn with_order(all: Orders, code: u32) -> Orders {
     let run = bound_in(code);
     let bench = run.bench;
-    let full = bench_with(16, ALL);
+    let full = Made::Printed(16, ALL).words();
     Orders {
         tried: more(all.tried, true),
         done: more(all.done, run.done == 4),
-        same: more(all.same, same_bench(&bench, &full)),
+        same: more(all.same, bench == full),
         written: more(all.written, writes_the_mapping(bench)),
     }
 }
@@ -64,13 +61,10 @@ fn with_orders() -> Orders {
         same: 0,
         written: 0,
     };
-    let mut code: u32 = 0;
-    while code < 256 {
+    for code in 0..256 {
         if is_order(code) {
-            let next = with_order(all, code);
-            all = next;
+            all = with_order(all, code);
         }
-        code += 1;
     }
     all
 }

@@ -2,26 +2,24 @@
 use crate::orders::writes_the_mapping;
 use accounts::sound::BENCH_WORDS;
 use bench_calls::calls::Told;
-use bench_calls::files::{RULES, WRONG_LT_RULE, same_bench};
+use bench_calls::files::{RULES, WRONG_LT_RULE};
 use bench_calls::{calls, lines};
-use reference::answer::{DONE, OF_WORD, answered, same_answer};
+use reference::answer::{Given, Subject, refused};
 use testing::say;
 use testing::tally::more;
 use testing::words::JOB;
 
 // Rules that bind refuses as long as LT is not bound, and the numbers.
-const REFUSED: [u32; 8] = [
-    0x6085_4960,
-    0x5185_C970,
-    0x5C89_4401,
-    0x5185_C920,
-    0x5109_4960,
-    0x5421_4100,
-    WRONG_LT_RULE,
-    0x5C8A_240B,
+const REFUSED: [(u32, u32); 8] = [
+    (0x6085_4960, 2),
+    (0x5185_C970, 3),
+    (0x5C89_4401, 5),
+    (0x5185_C920, 6),
+    (0x5109_4960, 8),
+    (0x5421_4100, 8),
+    (WRONG_LT_RULE, 10),
+    (0x5C8A_240B, 10),
 ];
-
-const NUMBERS: [u32; 8] = [2, 3, 5, 6, 8, 8, 10, 10];
 
 // The lowest source that is not bound, before each bind.
 const UNBOUND: [usize; 4] = [1, 3, 8, 25];
@@ -52,13 +50,13 @@ pub fn begun() -> Run {
 
 // A call that was to be refused.
 fn noted(run: Run, told: Told, refused: bool) -> Run {
-    let before = run.bench;
-    let next = told.bench;
+    let bench = told.bench;
+    let kept = told.untouched & (bench == run.bench);
     Run {
-        bench: next,
+        bench,
         tried: more(run.tried, true),
         refused: more(run.refused, refused),
-        kept: more(run.kept, told.untouched & same_bench(&before, &next)),
+        kept: more(run.kept, kept),
         done: run.done,
     }
 }
@@ -67,16 +65,14 @@ fn with_refused(run: Run, word: u32, number: u32) -> Run {
     let bench = run.bench;
     let told = calls::bind(bench, word);
     let answer = told.answer;
-    noted(run, told, answer.number == number)
+    let refused = answer.is_err_and(|refusal| (refusal.number == number) & refusal.shown);
+    noted(run, told, refused)
 }
 
 fn with_each_refused(run: Run) -> Run {
     let mut run = run;
-    let mut i = 0;
-    while i < 8 {
-        let next = with_refused(run, REFUSED[i], NUMBERS[i]);
-        run = next;
-        i += 1;
+    for (word, number) in REFUSED {
+        run = with_refused(run, word, number);
     }
     run
 }
@@ -85,13 +81,11 @@ pub fn with_bound(run: Run, word: u32) -> Run {
     let bench = run.bench;
     let told = calls::bind(bench, word);
     let answer = told.answer;
-    let next = told.bench;
+    let bench = told.bench;
     Run {
-        bench: next,
-        tried: run.tried,
-        refused: run.refused,
-        kept: run.kept,
-        done: more(run.done, answer.form == DONE),
+        bench,
+        done: more(run.done, answer == Ok(Given::Nothing)),
+        ..run
     }
 }
 
@@ -100,7 +94,7 @@ fn with_finish(run: Run, size: usize, number: u32, place: usize) -> Run {
     let bench = run.bench;
     let told = calls::finish(bench, size);
     let answer = told.answer;
-    let refused = same_answer(answer, answered(OF_WORD, number, place));
+    let refused = answer == Err(refused(Subject::Word, number, place));
     noted(run, told, refused)
 }
 
@@ -112,11 +106,8 @@ fn with_step(run: Run, rule: u32, unbound: usize) -> Run {
 
 fn with_steps() -> Run {
     let mut run = begun();
-    let mut i = 0;
-    while i < 4 {
-        let next = with_step(run, RULES[i], UNBOUND[i]);
-        run = next;
-        i += 1;
+    for (rule, unbound) in RULES.iter().zip(&UNBOUND) {
+        run = with_step(run, *rule, *unbound);
     }
     run
 }
@@ -133,6 +124,7 @@ pub fn report(rt: &HostRuntime) {
     lines::whether(
         rt,
         writes_the_mapping(last),
-        b"; the printed mapping written\n|; OTHER WORDS WRITTEN\n",
+        b"; the printed mapping written\n",
+        b"; OTHER WORDS WRITTEN\n",
     );
 }

@@ -2,10 +2,8 @@
 use accounts::sound::{BENCH_WORDS, GLUE, is_sound};
 use bench_calls::calls;
 use bench_calls::calls::Told;
-use bench_calls::files::{
-    ADD_AND_LT, RSUB_RULE, bench_with, counted, inhibit_bench, same_bench, whole_bench,
-};
-use reference::answer::{OF_WORD, PRICED, answered, same_answer};
+use bench_calls::files::{ADD, AND, LT, Made, RSUB_RULE, counted, inhibit_bench, whole_bench};
+use reference::answer::{Given, Subject, refused};
 use testing::say;
 use testing::tally::more;
 use testing::words::printed_word;
@@ -28,10 +26,9 @@ fn empty() -> Tally {
 
 // Refused with 20 where the bench is not sound, and only there; refused, the bench and the lent words are as they were.
 fn is_fair(told: Told, bench: [u32; BENCH_WORDS], sound: bool) -> bool {
-    let next = told.bench;
     let answer = told.answer;
-    let refused = same_answer(answer, answered(OF_WORD, 20, 0));
-    let kept = same_bench(&next, &bench) & told.untouched;
+    let refused = answer == Err(refused(Subject::Word, 20, 0));
+    let kept = (told.bench == bench) & told.untouched;
     (refused ^ sound) & (sound | kept)
 }
 
@@ -39,9 +36,8 @@ fn is_fair(told: Told, bench: [u32; BENCH_WORDS], sound: bool) -> bool {
 fn price_is_fair(bench: [u32; BENCH_WORDS], sound: bool) -> bool {
     let told = calls::price(bench);
     let price = told.answer;
-    let next = told.bench;
-    let priced = same_answer(price, answered(PRICED, 0, bench[GLUE] as usize));
-    (priced ^ !sound) & same_bench(&next, &bench) & is_fair(told, bench, sound)
+    let priced = price == Ok(Given::Count(bench[GLUE] as u64));
+    (priced ^ !sound) & (told.bench == bench) & is_fair(told, bench, sound)
 }
 
 fn with(all: Tally, bench: [u32; BENCH_WORDS]) -> Tally {
@@ -81,11 +77,8 @@ fn as_counted(bench: [u32; BENCH_WORDS], anew: bool) -> [u32; BENCH_WORDS] {
 
 fn with_each_bit(bench: [u32; BENCH_WORDS], anew: bool) -> Tally {
     let mut all = empty();
-    let mut i: u32 = 0;
-    while i < 2744 {
-        let next = with(all, as_counted(turned(bench, i), anew));
-        all = next;
-        i += 1;
+    for i in 0..2744 {
+        all = with(all, as_counted(turned(bench, i), anew));
     }
     all
 }
@@ -93,13 +86,10 @@ fn with_each_bit(bench: [u32; BENCH_WORDS], anew: bool) -> Tally {
 // The words of the printed job and of its mapping, and 0, at each index of the three tables.
 fn with_each_word(bench: [u32; BENCH_WORDS], anew: bool) -> Tally {
     let mut all = empty();
-    let mut i = 0;
-    while i < 1701 {
+    for i in 0..1701 {
         let mut words = bench;
         words[i % 81] = printed_word(i / 81);
-        let next = with(all, as_counted(words, anew));
-        all = next;
-        i += 1;
+        all = with(all, as_counted(words, anew));
     }
     all
 }
@@ -127,7 +117,7 @@ pub fn report(rt: &HostRuntime) {
     report_bench(
         rt,
         b"the printed job at width 3, ADD, AND and LT bound",
-        bench_with(3, ADD_AND_LT),
+        Made::Printed(3, ADD | AND | LT).words(),
     );
     report_bench(
         rt,

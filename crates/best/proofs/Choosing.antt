@@ -6,7 +6,7 @@ use Prim.Native.Nat.{ℕ, ◌+◌, ◌≤◌, ◌<◌}
 use borrow.Author.Tests.{eq-eqb, ne_eqb, not-true, not-false}
 use lib.Bits.{bit_or}
 use lib.ListN.{length, drop, get_or, drop_of_length-le}
-use Rattle.std.specs.Prelude.{if◌then◌else◌}
+use Rattle.std.specs.Prelude.{Option, Some, if◌then◌else◌}
 use Rattle.words.proofs.Lists.{drop-next}
 use Rattle.recipe.specs.Fields.{source_of}
 use Rattle.binding.specs.Right.{is_right}
@@ -22,7 +22,7 @@ use Rattle.best.specs.declared.Best.{Best}
 
 -- ---- one rule: the ways out of `consider`
 
-module _ (j : Job) (ss ts : List ℕ) (f used w : ℕ) (best : Best) (s : ℕ) (es : s ≡ source_of w) where
+module _ (j : Job) (ss ts : List ℕ) (f used w : ℕ) (best : Option Best) (s : ℕ) (es : s ≡ source_of w) where
   pub other_function : (s ≡ f → ⊥) → best ≡ better (besides j.width j.prices used) (terms_with j ss ts) f best w
   unfolding better serves
   other_function h = rw (ne_eqb (source_of w) f (λ z. h (es ∙ z))) refl
@@ -39,7 +39,7 @@ module _ (j : Job) (ss ts : List ℕ) (f used w : ℕ) (best : Best) (s : ℕ) (
 
       -- the rule serves its function if it is right
       by_rightness : better (besides j.width j.prices used) (terms_with j ss ts) f best w
-          ≡ (if is_right (claim_in ss ts w) j.width then if b then record { found = true; word = w; total = total } else best else best)
+          ≡ (if is_right (claim_in ss ts w) j.width then if b then Some (record { word = w; total = total }) else best else best)
       unfolding better serves usable
       by_rightness =
           rw (eq-eqb (source_of w) f (sym es ∙ hs))
@@ -58,7 +58,7 @@ module _ (j : Job) (ss ts : List ℕ) (f used w : ℕ) (best : Best) (s : ℕ) (
         wrong_rule h = sym (by_rightness ∙ rw (sym er ∙ not-true r h) refl)
 
         pub best_now : not r ≡ false
-            → ◌≡◌ {A = Best} (record { found = true; word = w; total = total })
+            → ◌≡◌ {A = Option Best} (Some (record { word = w; total = total }))
             (better (besides j.width j.prices used) (terms_with j ss ts) f best w)
         best_now h = sym (by_rightness ∙ rw (sym er ∙ not-false r h) (rw (not-false b hb) refl))
 
@@ -66,19 +66,19 @@ module _ (j : Job) (ss ts : List ℕ) (f used w : ℕ) (best : Best) (s : ℕ) (
 
 module _ (t : Terms) (f : ℕ) where
   -- only the glue that each rule makes matters
-  better-same : (g h : ℕ → ℕ) → ((w : ℕ) → g w ≡ h w) → (best : Best) (w : ℕ) → better g t f best w ≡ better h t f best w
+  better-same : (g h : ℕ → ℕ) → ((w : ℕ) → g w ≡ h w) → (best : Option Best) (w : ℕ) → better g t f best w ≡ better h t f best w
   unfolding better
   better-same g h e best w =
-      ap (λ (x : ℕ). if serves t f w then if beats best x then record { found = true; word = w; total = x } else best else best) (e w)
+      ap (λ (x : ℕ). if serves t f w then if beats best x then Some (record { word = w; total = x }) else best else best) (e w)
 
-  pub best_same : (g h : ℕ → ℕ) → ((w : ℕ) → g w ≡ h w) → (best : Best) (ws : List ℕ) → best_of g t f best ws ≡ best_of h t f best ws
+  pub best_same : (g h : ℕ → ℕ) → ((w : ℕ) → g w ≡ h w) → (best : Option Best) (ws : List ℕ) → best_of g t f best ws ≡ best_of h t f best ws
   unfolding best_of
   best_same g h e best [] = refl
   best_same g h e best (w ∷ ws) =
-      ap (λ (x : Best). best_of g t f x ws) (better-same g h e best w) ∙ best_same g h e (better h t f best w) ws
+      ap (λ (x : Option Best). best_of g t f x ws) (better-same g h e best w) ∙ best_same g h e (better h t f best w) ws
 
-  module _ (g : ℕ → ℕ) (rules : List ℕ) (best whole : Best) (i : ℕ) (e : best_of g t f best (drop i rules) ≡ whole) where
-    pub one_rule_more : (next : Best) → i < length rules → next ≡ better g t f best (get_or rules i 0)
+  module _ (g : ℕ → ℕ) (rules : List ℕ) (best whole : Option Best) (i : ℕ) (e : best_of g t f best (drop i rules) ≡ whole) where
+    pub one_rule_more : (next : Option Best) → i < length rules → next ≡ better g t f best (get_or rules i 0)
         → best_of g t f next (drop (i + 1) rules) ≡ whole
     unfolding best_of
     one_rule_more next h u = rw u (rw (drop-next rules i h) at e)

@@ -9,31 +9,34 @@ ghost use Rattle.best.specs.Beside as K;
 
 use reader::Job;
 
-// The best rule so far for a source, and the glue that it makes with the bindings before it.
+// A rule for a source, and the glue that it makes with the bindings before it.
 #[derive(Clone, Copy)]
 pub struct Best {
-    pub found: bool,
     pub word: u32,
     pub total: u32,
 }
 
-// Whether a rule that makes this glue is better than the best so far: only strictly less is.
-fn beats(best: Best, total: u32) -> bool
+// Whether a rule that makes this glue is better than the best so far, if there is one: only strictly less is.
+#[tactic(auto, unfolding(crate::specs::Best::beats))]
+fn beats(best: Option<Best>, total: u32) -> bool
     ensures { result ≡ C.beats best total }
 {
-    if best.found { total < best.total } else { true }
+    match best {
+        None => true,
+        Some(best) => total < best.total,
+    }
 }
 
 // One rule more for a function, beside bindings that use a set. A rule is judged last, and only if it would make less glue.
 pub fn consider(
-    best: Best,
+    best: Option<Best>,
     word: u32,
     function: u32,
     used: u64,
     job: Job,
     sources: &[u32],
     targets: &[u32],
-) -> Best
+) -> Option<Best>
     requires { Q.Width job.width }
     ensures { result ≡ C.better (K.besides job.width job.prices used) (T.terms_with job sources.now targets.now) function best word }
 {
@@ -52,9 +55,5 @@ pub fn consider(
     if !claims::is_right(sources, targets, word, n) {
         return best;
     }
-    Best {
-        found: true,
-        word,
-        total,
-    }
+    Some(Best { word, total })
 }

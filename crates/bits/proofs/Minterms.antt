@@ -1,6 +1,5 @@
 -- A logic vector on whole words: the sum of its minterms' words.
-use Rattle.std.proofs.Common.{◌≡◌, ℕ, zero, suc, ◌+◌, ◌-◌, ◌*◌, ◌/◌, ◌%◌, ◌^◌, ◌≤◌, Bool, true, false, not, ◌&&◌, eqb, sym, refl, ap, ◌∙◌, ap₂, true≢false, add-mul, add_comm, one-mul, zero-mul, div-one, arith, pow_mono}
-use mathlib.Core.Bool.{false≢true}
+use Rattle.std.proofs.Common.{◌≡◌, ℕ, zero, suc, ◌+◌, ◌-◌, ◌*◌, ◌/◌, ◌%◌, ◌^◌, ◌≤◌, Bool, true, false, not, ◌&&◌, eqb, sym, refl, ap, ◌∙◌, ap₂, add-mul, add_comm, one-mul, zero-mul, div-one, arith, pow_mono}
 use lib.Bits.{bit_and, and_block}
 use Rattle.bits.specs.Bits.{num, bit, word}
 use Rattle.bits.specs.Vector.{minterm, logic_word}
@@ -154,11 +153,3 @@ module _ (n a b : ℕ) (g : Operands n a b) where
         (λ i. (e0.0 ∙ ap (λ (z : ℕ). num (eqb (z % 2) 1) * bit_and a b) (sym (div-one v))) i + e1.0 i + e2.0 i
         + (e3.0 ∙ ap (λ (z : ℕ). num (eqb (v / 8 % 2) 1) * (z - a - (b - bit_and a b))) em) i)
         ∙ by_minterms
-
-pub gated_on : (b : Bool) (w : ℕ) → b ≡ true → w ≡ num b * w
-gated_on true w e = omega arith
-gated_on false w e = absurd (false≢true e)
-
-pub gated_off : (b : Bool) (w : ℕ) → b ≡ false → 0 ≡ num b * w
-gated_off true w e = absurd (true≢false e)
-gated_off false w e = omega arith

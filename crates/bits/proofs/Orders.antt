@@ -1,8 +1,9 @@
 -- The order of two's complement values, from the signs and the order of the words.
 use Rattle.std.proofs.Common.{◌≡◌, ℕ, zero, suc, ◌+◌, ◌*◌, ◌^◌, ◌<◌, ◌≤◌, Bool, true, false, ltb, sym, refl, ◌∙◌, arith, le-ltb, lt-ltb}
 use native.Mathlib.Decide.{dec_lt}
+use mathlib.Core.Bool.{beq}
 use Rattle.bits.specs.Bits.{num, bit, top, word}
-use Rattle.bits.specs.Order.{below, compared}
+use Rattle.bits.specs.Order.{below}
 use Rattle.bits.specs.Asked.{Operands}
 use Rattle.bits.proofs.Values.{below_nat}
 use Rattle.bits.proofs.Words.{pow2, word_lt, top_split, suc-sub_one}
@@ -42,30 +43,23 @@ module _ (n a b : ℕ) (g : Operands n a b) (p q : Bool) (ep : p ≡ top n a) (e
   by_signs : below n a b ≡ signed p q (ltb a b)
   by_signs = below_signs n a b g.least g.left_fits g.right_fits ∙ (λ i. signed (sym ep i) (sym eq i) (ltb a b))
 
-  pub both_negative : p ≡ true → q ≡ true → ltb a b ≡ below n a b
+  pub one_sign : beq p q ≡ true → ltb a b ≡ below n a b
   unfolding signed
-  both_negative u v = sym (rw (u, v) at by_signs)
+  one_sign e = sym (by_signs ∙ go p q e)
+    where
+      go : (x y : Bool) → beq x y ≡ true → signed x y (ltb a b) ≡ ltb a b
+      go true true e = refl
+      go false false e = refl
+      go true false e = cc
+      go false true e = cc
 
-  pub left_negative : p ≡ true → q ≡ false → true ≡ below n a b
+  -- the negative one is less
+  pub two_signs : beq p q ≡ false → p ≡ below n a b
   unfolding signed
-  left_negative u v = sym (rw (u, v) at by_signs)
-
-  pub right_negative : p ≡ false → q ≡ true → false ≡ below n a b
-  unfolding signed
-  right_negative u v = sym (rw (u, v) at by_signs)
-
-  pub neither_negative : p ≡ false → q ≡ false → ltb a b ≡ below n a b
-  unfolding signed
-  neither_negative u v = sym (rw (u, v) at by_signs)
-
--- ---- and out of `compared`
-module _ (n : ℕ) (l e g : Bool) (a b : ℕ) (p : Bool) (ep : p ≡ below n a b) where
-  pub less : p ≡ true → l ≡ compared n l e g a b
-  less u = rw (sym ep ∙ u) refl
-
-  module _ (q : Bool) (eq : q ≡ below n b a) (u : p ≡ false) where
-    pub greater : q ≡ true → g ≡ compared n l e g a b
-    greater v = rw (sym ep ∙ u) (rw (sym eq ∙ v) refl)
-
-    pub equal : q ≡ false → e ≡ compared n l e g a b
-    equal v = rw (sym ep ∙ u) (rw (sym eq ∙ v) refl)
+  two_signs e = sym (by_signs ∙ go p q e)
+    where
+      go : (x y : Bool) → beq x y ≡ false → signed x y (ltb a b) ≡ x
+      go true true e = cc
+      go false false e = cc
+      go true false e = refl
+      go false true e = refl

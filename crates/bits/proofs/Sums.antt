@@ -6,7 +6,6 @@ use mathlib.Core.Bool.{beq}
 use lib.Pow.{low}
 use lib.Bits.{bit_and, and_mask}
 use borrow.Author.Tests.{lt-leb}
-use Rattle.std.specs.Prelude.{if◌then◌else◌}
 use Rattle.bits.specs.Bits.{num, exor, bit, top, word}
 use Rattle.bits.specs.Sum.{overflows, sum}
 use Rattle.bits.specs.Asked.{Operands}
@@ -51,13 +50,6 @@ carry_out_lem n t h =
 same_cut : {w w' : ℕ} {k k' : Bool} → w ≡ w' → k ≡ k' → ◌≡◌ {A = CutSum} (record { word = w; carry = k }) (record { word = w'; carry = k' })
 same_cut p q = λ i. record { word = p i; carry = q i }
 
-wrapped_is : (c q : Bool) (a b s m : ℕ) → a < m → b < m → s < m → a + b + num c ≡ s + num q * m
-    → (if c then leb s a else ltb s a) ≡ q
-wrapped_is true true a b s m ha hb hs e = le-leb s a (omega arith)
-wrapped_is true false a b s m ha hb hs e = lt-leb s a (omega arith)
-wrapped_is false true a b s m ha hb hs e = lt-ltb s a (omega arith)
-wrapped_is false false a b s m ha hb hs e = le-ltb s a (omega arith)
-
 past_ones : (t m p : ℕ) → m ≡ p - 1 → 0 < p → ltb m t ≡ leb p t
 past_ones t m p e h =
     elim (dec_lt m t) [
@@ -79,18 +71,6 @@ module _ (n a b : ℕ) (c : Bool) (t k s : ℕ) (g : Operands n a b)
       let exact : s ≡ a + b + num c = sum_wraps ∙ mod-eq_of_lt (omega (arith, num-lt c)) in
       same_cut (ap (bit_and s) e ∙ and_mask s n ∙ ap (λ (x : ℕ). x % 2 ^ n) exact)
       (ap (ltb m) exact ∙ past_ones (a + b + num c) m (2 ^ n) e (pow_pos n))
-
-  pub wide : (w : Bool) → 64 ≤ n → w ≡ (if c then leb s a else ltb s a) → record { word = s; carry = w } ≡ cut n (a + b + num c)
-  wide w h e =
-      let full : n ≡ 64 = omega arith in
-      let hl : a < 2 ^ 64 = rw full at g.left_fits in
-      let hr : b < 2 ^ 64 = rw full at g.right_fits in
-      let q = carry_out_lem 64 (a + b + num c) (omega (arith, num-lt c)) in
-      let hs : s < 2 ^ 64 = rw sum_wraps (mod-lt (a + b + num c) (pow_pos 64)) in
-      let u : a + b + num c ≡ s + num q.0 * 2 ^ 64 = q.1 ∙ ap (λ (z : ℕ). z + num q.0 * 2 ^ 64) (sym sum_wraps) in
-      rw full
-      (same_cut sum_wraps
-      (e ∙ wrapped_is c q.0 a b s (2 ^ 64) hl hr hs u ∙ sym (reaches q.0 (a + b + num c) s (2 ^ 64) hs u)))
 
 -- ---- overflow, from the signs of the words and of their sum
 

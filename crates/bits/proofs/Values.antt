@@ -4,8 +4,7 @@ use native.Mathlib.Decide.{dec_lt, dec_le}
 use lib.IntN.{sub_ℕ}
 use lib.Signed.{lt_z, le_z}
 use borrow.Author.Tests.{lt-leb}
-use Rattle.bits.specs.Bits.{num, top}
-use Rattle.bits.specs.Bits.{value}
+use Rattle.bits.specs.Bits.{num, top, value}
 use Rattle.bits.specs.Sum.{overflows}
 use Rattle.bits.specs.Order.{below}
 

@@ -1,13 +1,10 @@
 -- What wiring and carry codes give, by arithmetic. Codes 2j and 2j + 1 are complements: the rest of a code chooses the word or bit, and
 -- its low bit goes into an exclusive or. Said once for all codes, and over the width.
-use Rattle.std.proofs.Common.{◌≡◌, ℕ, zero, suc, ◌+◌, ◌-◌, ◌*◌, ◌/◌, ◌%◌, ◌^◌, ◌<◌, ◌≤◌, Bool, true, false, not, eqb, List, [], ◌∷◌, length, get_or, sym, refl, ap, ◌∙◌, mod-lt, mod-eq_of_lt, zero-lt-suc, one-mul, zero-mul, arith, pow_pos, pow_mono}
+use Rattle.std.proofs.Common.{◌≡◌, ℕ, zero, suc, ◌+◌, ◌-◌, ◌*◌, ◌/◌, ◌%◌, ◌^◌, ◌<◌, ◌≤◌, eqb, List, [], ◌∷◌, length, get_or, sym, refl, ap, ◌∙◌, mod-lt, mod-eq_of_lt, zero-lt-suc, one-mul, zero-mul, arith, pow_pos, pow_mono}
 use native.Mathlib.Nat.{sub-zero}
-use mathlib.Core.Bool.{beq}
-use lib.ListN.{get_or-eq_default}
 use lib.Bits.{bit_and, bit_xor, and_mask, and_comm, xor_zero_r, xor_add_and, xor_lt}
 use Rattle.std.specs.Prelude.{if◌then◌else◌}
-use Rattle.bits.specs.Bits.{exor}
-use Rattle.bits.specs.Wiring.{wired, carried, complement}
+use Rattle.bits.specs.Wiring.{wired, complement}
 
 -- ---- codes in pairs
 
@@ -74,32 +71,3 @@ module _ (n code l r m : ℕ) (hl : l < 2 ^ n) (hr : r < 2 ^ n) (e : m ≡ code 
       go zero k u = let p = pow_pos n in omega arith
       go (suc zero) k u = let p = pow_pos n in omega arith
       go (suc (suc b)) k u = absurd (omega arith)
-
-pub wired-past : (n code l r : ℕ) → 6 ≤ code → 0 ≡ wired n code l r
-wired-past n code l r h =
-    sym (get_or-eq_default (0 ∷ (2 ^ n - 1) ∷ l ∷ complement n l ∷ r ∷ complement n r ∷ []) 0 h)
-
--- ---- a bit
-
-pub xor_exor : (x y : Bool) → not (beq x y) ≡ exor x y
-xor_exor true true = refl
-xor_exor true false = refl
-xor_exor false true = refl
-xor_exor false false = refl
-
-xor_bit : (x b : Bool) → not (beq x b) ≡ (if b then not x else x)
-xor_bit true true = refl
-xor_bit true false = refl
-xor_bit false true = refl
-xor_bit false false = refl
-
-pub bit-of_pair : (xs : List Bool) (code : ℕ) → code / 2 < length xs
-    → not (beq (get_or xs (code / 2) false) (eqb (code % 2) 1)) ≡ get_or (pairs not xs) code false
-bit-of_pair xs code h = xor_bit (get_or xs (code / 2) false) (eqb (code % 2) 1) ∙ of_pair not false xs code h
-
-pub carried-by_low_bit : (code : ℕ) (c : Bool) → code < 4
-    → not (beq (get_or (false ∷ c ∷ []) (code / 2) false) (eqb (code % 2) 1)) ≡ carried code c
-carried-by_low_bit code c h = bit-of_pair (false ∷ c ∷ []) code (omega arith)
-
-pub carried-past : (code : ℕ) (c : Bool) → 4 ≤ code → false ≡ carried code c
-carried-past code c h = sym (get_or-eq_default (false ∷ true ∷ c ∷ not c ∷ []) false h)

@@ -36,12 +36,6 @@ num-bit a i = go (a / 2 ^ i % 2) (mod-lt (a / 2 ^ i) (zero-lt-suc 1))
     go (suc zero) h = refl
     go (suc (suc d)) h = absurd (omega arith)
 
-num-inj : (x y : Bool) → num x ≡ num y → x ≡ y
-num-inj true true e = refl
-num-inj true false e = absurd (omega arith)
-num-inj false true e = absurd (omega arith)
-num-inj false false e = refl
-
 pub word_mod : (n a : ℕ) → word n (bit a) ≡ a % 2 ^ n
 unfolding word
 word_mod zero a = sym (mod-one a)

@@ -16,13 +16,6 @@ pub struct CutSum {
     pub carry: bool,
 }
 
-// A bit as a number.
-fn number(b: bool) -> u64
-    ensures { (result ≡ B.num b) × (result < 2) }
-{
-    if b { 1 } else { 0 }
-}
-
 // Whether a sum of a, another word and a carry passed 2^64, from what is left of it.
 fn wrapped(s: u64, a: u64, c: bool) -> bool
     ensures { result ≡ (if c then nat_le s a else nat_lt s a) }
@@ -34,7 +27,7 @@ fn add(n: u32, a: u64, b: u64, c: bool) -> CutSum
     requires { Q.Operands n a b }
     ensures { result ≡ cut n (a + b + B.num c) }
 {
-    let s = std::num::wrapping_add_u64(std::num::wrapping_add_u64(a, b), number(c));
+    let s = std::num::wrapping_add_u64(std::num::wrapping_add_u64(a, b), u64::from(c));
     if n < 64 {
         let m = ones(n);
         return CutSum {
@@ -52,11 +45,7 @@ fn add(n: u32, a: u64, b: u64, c: bool) -> CutSum
 fn overflow(p: bool, q: bool, s: bool) -> bool
     ensures { result ≡ (beq p q && B.exor p s) }
 {
-    if p {
-        if q { !s } else { false }
-    } else {
-        if q { false } else { s }
-    }
+    p == q && p != s
 }
 
 // The ports of a sum.

@@ -9,7 +9,7 @@ use crate::ones;
 fn gated(b: bool, word: u64) -> u64
     ensures { (result ≡ B.num b * word) × (result ≤ word) }
 {
-    if b { word } else { 0 }
+    u64::from(b) * word
 }
 
 pub fn logic_word(n: u32, vector: u32, left: u64, right: u64) -> u64

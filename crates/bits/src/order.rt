@@ -9,11 +9,8 @@ fn below(n: u32, a: u64, b: u64) -> bool
     requires { Q.Operands n a b }
     ensures { result ≡ O.below n a b }
 {
-    if top(n, a) {
-        if top(n, b) { a < b } else { true }
-    } else {
-        if top(n, b) { false } else { a < b }
-    }
+    let p = top(n, a);
+    if p == top(n, b) { a < b } else { p }
 }
 
 pub fn compared(n: u32, less: bool, equal: bool, greater: bool, left: u64, right: u64) -> bool

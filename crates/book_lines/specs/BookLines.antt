@@ -1,9 +1,9 @@
 -- What is printed of the book: each rule as document 01 has a binding printed, "source name, target name or LV, word in eight capital
 -- hexadecimal digits", with the record of the report's appendix that it comes from.
-use Rattle.std.specs.Prelude.{ℕ, List, ◌++◌, get_or}
+use Rattle.std.specs.Prelude.{ℕ, List, [], ◌∷◌, ◌++◌, map, get_or}
 use Rattle.book.specs.Book.{book}
 use Rattle.listing.specs.Listing.{binding_text}
-use Rattle.text.specs.Text.{bytes, cell_of}
+use Rattle.text.specs.Text.{bytes, entry}
 
 -- no name of a record has more bytes, and no line of a rule
 abbrev pub most_record_bytes : ℕ
@@ -12,14 +12,14 @@ most_record_bytes = 6
 abbrev pub most_rule_bytes : ℕ
 most_rule_bytes = 28
 
--- the records' names in the book's order, six characters each; "-" for the "obvious companions" of request #101
-unfoldable pub records : List ℕ
+-- the records' names in the book's order; "-" for the "obvious companions" of request #101
+unfoldable pub records : List (List ℕ)
 records =
-    bytes "AA1...AA2...AS1...AS2...AR1...AR2...SA1...SA2...SS....-.....-.....SR....RA1...RA2...-.....RS....RR....-.....IA2...IA1...-.....IS1...IR1...-.....-.....-.....DA2...DA1...-.....DS1...DR1...-.....-.....-.....-.....ZOZO..ZOOE..ZOAD1.ZOOR2.ZOOR1.-.....OEZO..OEOE..OEAD1.OEOR2.OEOR1.ADNE..ADAD1.ADAD2.ADND1.ADND2.NDNE..NDAD1.NDAD2.NDND1.NDND2.ORNE..OROR1.OROR2.ORNR1.ORNR2.NRNE..NROR1.NROR2.NRNR1.NRNR2.XRNE..XRXR1.XRXR2.XRXN1.XRXN2.XNNE..XNXR1.XNXR2.XNXN1.XNXN2.LDNE..LDAD2.LDAD1.LDOR2.LDOR1.LDLD..-.....LDLN..LDRN..RDNE..RDAD2.RDAD1.RDOR2.RDOR1.RDLD..RDRD..RDLN..RDRN..LNNE..LNAD2.LNAD1.LNOR2.LNOR1.LNLD..LNRD..LNLN..-.....RNNE..RNAD2.RNAD1.RNOR2.RNOR1.RNLD..RNRD..RNLN..RNRN..LINE..LILI..LIRI..-.....LIRL..RINE..-.....RIRI..RILL..-.....LLNE..-.....LLRI..LLLL..LLRL..RLNE..RLLI..-.....RLLL..RLRL..EQAD1.EQAD2.EQAD3.EQAD4.EQSB1.EQSB3.EQSB2.EQSB4.EQRB1.EQRB3.EQRB2.EQRB4.EQXR1.EQXR3.EQXR2.EQXR4.EQXN1.EQXN3.EQXN2.EQXN4.EQEQ1.-.....EQEQ2.-.....EQNEQ1-.....-.....-.....NQAD1.NQAD2.NQAD3.NQAD4.NQSB1.NQSB3.NQSB2.NQSB4.NQRB1.NQRB3.NQRB2.NQRB4.NQXR1.NQXR3.NQXR2.NQXR4.NQXN1.NQXN3.NQXN2.NQXN4.NQEQ1.-.....NQEQ2.-.....NQNQ1.-.....NQNQ2.-.....-.....-.....-.....-.....-.....-.....-.....-.....-.....-.....-.....-.....GTGT..-.....-.....-.....GTLQ..-.....-.....-.....-.....-.....-.....-.....-.....-.....-.....-.....-.....-.....LTLT1.-.....LTGQ..-.....-.....-.....-.....-.....-.....-.....-.....-.....-.....-.....-.....-.....-.....GQLT..GQGQ..-.....-.....-.....-.....-.....-.....-.....-.....-.....-.....-.....-.....-.....-.....LQGT..-.....-.....LQLQ1.-....."
+    map bytes ("AA1" ∷ "AA2" ∷ "AS1" ∷ "AS2" ∷ "AR1" ∷ "AR2" ∷ "SA1" ∷ "SA2" ∷ "SS" ∷ "-" ∷ "-" ∷ "SR" ∷ "RA1" ∷ "RA2" ∷ "-" ∷ "RS" ∷ "RR" ∷ "-" ∷ "IA2" ∷ "IA1" ∷ "-" ∷ "IS1" ∷ "IR1" ∷ "-" ∷ "-" ∷ "-" ∷ "DA2" ∷ "DA1" ∷ "-" ∷ "DS1" ∷ "DR1" ∷ "-" ∷ "-" ∷ "-" ∷ "-" ∷ "ZOZO" ∷ "ZOOE" ∷ "ZOAD1" ∷ "ZOOR2" ∷ "ZOOR1" ∷ "-" ∷ "OEZO" ∷ "OEOE" ∷ "OEAD1" ∷ "OEOR2" ∷ "OEOR1" ∷ "ADNE" ∷ "ADAD1" ∷ "ADAD2" ∷ "ADND1" ∷ "ADND2" ∷ "NDNE" ∷ "NDAD1" ∷ "NDAD2" ∷ "NDND1" ∷ "NDND2" ∷ "ORNE" ∷ "OROR1" ∷ "OROR2" ∷ "ORNR1" ∷ "ORNR2" ∷ "NRNE" ∷ "NROR1" ∷ "NROR2" ∷ "NRNR1" ∷ "NRNR2" ∷ "XRNE" ∷ "XRXR1" ∷ "XRXR2" ∷ "XRXN1" ∷ "XRXN2" ∷ "XNNE" ∷ "XNXR1" ∷ "XNXR2" ∷ "XNXN1" ∷ "XNXN2" ∷ "LDNE" ∷ "LDAD2" ∷ "LDAD1" ∷ "LDOR2" ∷ "LDOR1" ∷ "LDLD" ∷ "-" ∷ "LDLN" ∷ "LDRN" ∷ "RDNE" ∷ "RDAD2" ∷ "RDAD1" ∷ "RDOR2" ∷ "RDOR1" ∷ "RDLD" ∷ "RDRD" ∷ "RDLN" ∷ "RDRN" ∷ "LNNE" ∷ "LNAD2" ∷ "LNAD1" ∷ "LNOR2" ∷ "LNOR1" ∷ "LNLD" ∷ "LNRD" ∷ "LNLN" ∷ "-" ∷ "RNNE" ∷ "RNAD2" ∷ "RNAD1" ∷ "RNOR2" ∷ "RNOR1" ∷ "RNLD" ∷ "RNRD" ∷ "RNLN" ∷ "RNRN" ∷ "LINE" ∷ "LILI" ∷ "LIRI" ∷ "-" ∷ "LIRL" ∷ "RINE" ∷ "-" ∷ "RIRI" ∷ "RILL" ∷ "-" ∷ "LLNE" ∷ "-" ∷ "LLRI" ∷ "LLLL" ∷ "LLRL" ∷ "RLNE" ∷ "RLLI" ∷ "-" ∷ "RLLL" ∷ "RLRL" ∷ "EQAD1" ∷ "EQAD2" ∷ "EQAD3" ∷ "EQAD4" ∷ "EQSB1" ∷ "EQSB3" ∷ "EQSB2" ∷ "EQSB4" ∷ "EQRB1" ∷ "EQRB3" ∷ "EQRB2" ∷ "EQRB4" ∷ "EQXR1" ∷ "EQXR3" ∷ "EQXR2" ∷ "EQXR4" ∷ "EQXN1" ∷ "EQXN3" ∷ "EQXN2" ∷ "EQXN4" ∷ "EQEQ1" ∷ "-" ∷ "EQEQ2" ∷ "-" ∷ "EQNEQ1" ∷ "-" ∷ "-" ∷ "-" ∷ "NQAD1" ∷ "NQAD2" ∷ "NQAD3" ∷ "NQAD4" ∷ "NQSB1" ∷ "NQSB3" ∷ "NQSB2" ∷ "NQSB4" ∷ "NQRB1" ∷ "NQRB3" ∷ "NQRB2" ∷ "NQRB4" ∷ "NQXR1" ∷ "NQXR3" ∷ "NQXR2" ∷ "NQXR4" ∷ "NQXN1" ∷ "NQXN3" ∷ "NQXN2" ∷ "NQXN4" ∷ "NQEQ1" ∷ "-" ∷ "NQEQ2" ∷ "-" ∷ "NQNQ1" ∷ "-" ∷ "NQNQ2" ∷ "-" ∷ "-" ∷ "-" ∷ "-" ∷ "-" ∷ "-" ∷ "-" ∷ "-" ∷ "-" ∷ "-" ∷ "-" ∷ "-" ∷ "-" ∷ "GTGT" ∷ "-" ∷ "-" ∷ "-" ∷ "GTLQ" ∷ "-" ∷ "-" ∷ "-" ∷ "-" ∷ "-" ∷ "-" ∷ "-" ∷ "-" ∷ "-" ∷ "-" ∷ "-" ∷ "-" ∷ "-" ∷ "LTLT1" ∷ "-" ∷ "LTGQ" ∷ "-" ∷ "-" ∷ "-" ∷ "-" ∷ "-" ∷ "-" ∷ "-" ∷ "-" ∷ "-" ∷ "-" ∷ "-" ∷ "-" ∷ "-" ∷ "-" ∷ "GQLT" ∷ "GQGQ" ∷ "-" ∷ "-" ∷ "-" ∷ "-" ∷ "-" ∷ "-" ∷ "-" ∷ "-" ∷ "-" ∷ "-" ∷ "-" ∷ "-" ∷ "-" ∷ "-" ∷ "LQGT" ∷ "-" ∷ "-" ∷ "LQLQ1" ∷ "-" ∷ [])
 
 -- the record that the rule at an index comes from
 unfoldable pub record_of : ℕ → List ℕ
-record_of index = cell_of records most_record_bytes index
+record_of index = entry records index
 
 unfoldable pub rule_line : ℕ → List ℕ
 rule_line index = binding_text (get_or book index 0) ++ bytes " " ++ record_of index ++ bytes "\n"

@@ -6,10 +6,11 @@ use Prim.Native.Nat.{ℕ}
 use Rattle.words.specs.Paper.{refusal}
 use Rattle.verdict.specs.Verdicts.{Gives}
 use Rattle.input.specs.declared.Input.{Input}
-use Rattle.checker.specs.declared.Checked.TheVariants.{JobRefused}
+use Rattle.checker.specs.declared.CheckError.TheVariants.{JobRefused}
+use Rattle.std.specs.Prelude.{Err}
 use Rattle.check_answers.specs.Answers.{files_ruling}
 
 pub cut-before_all : (job mapping : List ℕ) (first second : Input) → first.cut ≡ true
-    → files_ruling job first mapping second ≡ Gives (JobRefused (refusal 2 first.whole))
+    → files_ruling job first mapping second ≡ Gives (Err (JobRefused (refusal 2 first.whole)))
 unfolding files_ruling
 cut-before_all job mapping first second cut = rw cut refl

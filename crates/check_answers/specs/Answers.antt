@@ -1,42 +1,45 @@
 -- What check_mapping says of what it read: "a last word cut short is 2 at its index", the job's before all else, the mapping's before the
 -- mapping's other refusals; "the checker's 1 to 6 also say which of the two is meant". A file that could not be read has no answer.
-use Rattle.std.specs.Prelude.{ℕ, Bool, true, false, List, [], if◌then◌else◌}
+use Rattle.std.specs.Prelude.{ℕ, Bool, true, false, List, [], if◌then◌else◌, Result, Ok, Err, ⊤}
 use Rattle.words.specs.Paper.{refusal}
 use Rattle.text.specs.Text.{Puts, bytes}
 use Rattle.lines.specs.Lines.{refused_line, refused_file_line, wrong_line}
 use Rattle.verdict.specs.Verdicts.{Ruling, Gives}
 use Rattle.reader.specs.Job.{job_of}
-use Rattle.reader.specs.declared.JobRead.{JobRead}
-use Rattle.reader.specs.declared.JobRead.TheVariants as read
+use Rattle.checker.specs.declared.CheckError.{CheckError}
+use Rattle.reader.specs.declared.Job.{Job}
+use Rattle.words.specs.declared.Refusal.{Refusal}
 use Rattle.input.specs.declared.Input.{Input}
 use Rattle.checker.specs.Check.{CheckRuled, ruling_of}
-use Rattle.checker.specs.declared.Checked.{Checked}
-use Rattle.checker.specs.declared.Checked.TheVariants.{Accepted, JobRefused, MappingRefused, Refused, Wrong}
+use Rattle.checker.specs.declared.CheckError.TheVariants.{JobRefused, MappingRefused, Refused, Wrong}
 
 -- the text of the checker's answer
-abbrev pub checked_text : Checked → List ℕ
-checked_text Accepted = bytes "ACCEPTED\n"
-checked_text (JobRefused r) = refused_file_line r false
-checked_text (MappingRefused r) = refused_file_line r true
-checked_text (Refused r) = refused_line r
-checked_text (Wrong v) = wrong_line v
+abbrev pub refused_text : CheckError → List ℕ
+refused_text (JobRefused r) = refused_file_line r false
+refused_text (MappingRefused r) = refused_file_line r true
+refused_text (Refused r) = refused_line r
+refused_text (Wrong v) = wrong_line v
+
+abbrev pub checked_text : Result ⊤ CheckError → List ℕ
+checked_text (Ok tt) = bytes "ACCEPTED\n"
+checked_text (Err e) = refused_text e
 
 -- ---- the answer to two files: the words that were kept of each, and what was read
 
 -- a mapping cut short at word `end`, with a job that was read
-abbrev pub cut_mapping : ℕ → JobRead → Checked
-cut_mapping end (read.Accepted job) = MappingRefused (refusal 2 end)
-cut_mapping end (read.Refused r) = JobRefused r
+abbrev pub cut_mapping : ℕ → Result Job Refusal → Result ⊤ CheckError
+cut_mapping end (Ok job) = Err (MappingRefused (refusal 2 end))
+cut_mapping end (Err r) = Err (JobRefused r)
 
-unfoldable pub files_ruling : List ℕ → Input → List ℕ → Input → Ruling Checked
+unfoldable pub files_ruling : List ℕ → Input → List ℕ → Input → Ruling (Result ⊤ CheckError)
 files_ruling job first mapping second =
-    if first.cut then Gives (JobRefused (refusal 2 first.whole))
+    if first.cut then Gives (Err (JobRefused (refusal 2 first.whole)))
     else if second.cut then Gives (cut_mapping second.whole (job_of job))
     else ruling_of job mapping
 
 -- the text of the answer to two files is put
-pub record SaysRuled (ruling : Ruling Checked) (out after : List ℕ) (end : ℕ) : Type 0 where
-  pub answer : Checked
+pub record SaysRuled (ruling : Ruling (Result ⊤ CheckError)) (out after : List ℕ) (end : ℕ) : Type 0 where
+  pub answer : Result ⊤ CheckError
   pub ruled : CheckRuled ruling answer
   pub text : Puts out 0 (checked_text answer) after end
 

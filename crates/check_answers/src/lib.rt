@@ -8,34 +8,32 @@ ghost use Rattle.reader.specs.Job as J;
 ghost use Rattle.checker.specs.Check as C;
 ghost use Rattle.check_answers.specs.Answers as S;
 
-use checker::Checked;
+use checker::CheckError;
 use input::Input;
-use reader::JobRead;
 use words::Refusal;
 
 // A mapping whose last word is cut short: the job's refusals come before it.
-fn cut_mapping(job: &[u32], end: usize) -> Checked
+fn cut_mapping(job: &[u32], end: usize) -> Result<(), CheckError>
     ensures { result ≡ S.cut_mapping end (J.job_of job.now) }
 {
-    let read = reader::read_job(job);
-    match read {
-        JobRead::Accepted(_) => Checked::MappingRefused(Refusal {
+    match reader::read_job(job) {
+        Ok(_) => Err(CheckError::MappingRefused(Refusal {
             number: 2,
             place: end,
-        }),
-        JobRead::Refused(refusal) => Checked::JobRefused(refusal),
+        })),
+        Err(refusal) => Err(CheckError::JobRefused(refusal)),
     }
 }
 
 // The answer to two files: the words that were kept of each, and what was read.
-fn check_files(job: &[u32], first: Input, mapping: &[u32], second: Input) -> Checked
+fn check_files(job: &[u32], first: Input, mapping: &[u32], second: Input) -> Result<(), CheckError>
     ensures { C.CheckRuled (S.files_ruling job.now first mapping.now second) result }
 {
     if first.cut {
-        return Checked::JobRefused(Refusal {
+        return Err(CheckError::JobRefused(Refusal {
             number: 2,
             place: first.whole,
-        });
+        }));
     }
     if second.cut {
         return cut_mapping(job, second.whole);
@@ -43,18 +41,29 @@ fn check_files(job: &[u32], first: Input, mapping: &[u32], second: Input) -> Che
     checker::check(job, mapping)
 }
 
+// The text of a refusal.
+fn put_refused(error: CheckError, out: &mut [u8]) -> usize
+    requires { L.most_line_bytes ≤ length out.old }
+    ensures short { result ≤ L.most_line_bytes }
+    ensures text { P.Puts out.old 0 (S.refused_text error) out.new result }
+{
+    match error {
+        CheckError::JobRefused(refusal) => lines::refused_file_line(refusal, false, out),
+        CheckError::MappingRefused(refusal) => lines::refused_file_line(refusal, true, out),
+        CheckError::Refused(refusal) => lines::refused_line(refusal, out),
+        CheckError::Wrong(witness) => lines::wrong_line(witness, out),
+    }
+}
+
 // The text of the checker's answer.
-fn put_checked(checked: Checked, out: &mut [u8]) -> usize
+fn put_checked(checked: Result<(), CheckError>, out: &mut [u8]) -> usize
     requires { L.most_line_bytes ≤ length out.old }
     ensures short { result ≤ L.most_line_bytes }
     ensures text { P.Puts out.old 0 (S.checked_text checked) out.new result }
 {
     match checked {
-        Checked::Accepted => text::put(b"ACCEPTED\n", out, 0),
-        Checked::JobRefused(refusal) => lines::refused_file_line(refusal, false, out),
-        Checked::MappingRefused(refusal) => lines::refused_file_line(refusal, true, out),
-        Checked::Refused(refusal) => lines::refused_line(refusal, out),
-        Checked::Wrong(witness) => lines::wrong_line(witness, out),
+        Ok(()) => text::put(b"ACCEPTED\n", out, 0),
+        Err(error) => put_refused(error, out),
     }
 }
 

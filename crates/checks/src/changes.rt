@@ -1,8 +1,9 @@
 // The printed job and mapping, changed. Both stand in one array, the mapping after the job.
-use crate::compare::{Tallies, compared, none};
+use crate::compare::{Tallies, compared, none, report};
 use rulings::checking::count_for;
-use std::num::wrapping_add_usize;
-use testing::words::{after, at, first, glue_word, printed_word, put};
+use std::num::{wrapping_add_u32, wrapping_add_usize};
+use std::ops::Range;
+use testing::words::{JOB, MAPPING, after, at, first, glue_word, put};
 
 // The words of the job; the bits of the job, and of both.
 const MIDDLE: usize = 14;
@@ -23,11 +24,8 @@ fn rightly_priced(both: [u32; 20]) -> [u32; 20] {
 // At a width, rightly priced.
 fn printed_at(n: u32) -> [u32; 20] {
     let mut words = [0u32; 20];
-    let mut i = 0;
-    while i < 20 {
-        words[i] = printed_word(i);
-        i += 1;
-    }
+    words[..MIDDLE].copy_from_slice(&JOB);
+    words[MIDDLE..].copy_from_slice(&MAPPING);
     words[0] = 0x1000_0000 | n;
     words[MIDDLE] = 0x1000_0000 | n;
     rightly_priced(words)
@@ -44,53 +42,41 @@ fn turned(both: [u32; 20], bit: u32) -> [u32; 20] {
     words
 }
 
-// Each bit from one on to before another, turned. The bits are counted from the lowest of the first word.
-fn with_each_bit(rt: &HostRuntime, all: Tallies, both: [u32; 20], from: u32, to: u32) -> Tallies {
+// Each of these bits turned. They are counted from the lowest of the first word.
+fn with_each_bit(rt: &HostRuntime, all: Tallies, both: [u32; 20], bits: Range<u32>) -> Tallies {
     let mut all = all;
-    let mut bit = from;
-    while bit < to {
-        let changed = turned(both, bit);
-        let next = with_both(rt, all, &changed);
-        all = next;
-        bit += 1;
+    for bit in bits {
+        all = with_both(rt, all, &turned(both, bit));
     }
     all
 }
 
 // Each of these bits turned, with each bit of the mapping after it.
-fn two_bits(rt: &HostRuntime, n: u32, from: u32, to: u32) -> Tallies {
+fn two_bits(rt: &HostRuntime, n: u32, bits: Range<u32>) -> Tallies {
     let both = printed_at(n);
     let mut all = none();
-    let mut bit = from;
-    while bit < to {
-        let start = if bit < JOB_BITS { JOB_BITS } else { bit + 1 };
-        let next = with_each_bit(rt, all, turned(both, bit), start, BITS);
-        all = next;
-        bit += 1;
+    for bit in bits {
+        let start = JOB_BITS.max(wrapping_add_u32(bit, 1));
+        all = with_each_bit(rt, all, turned(both, bit), start..BITS);
     }
     all
 }
 
-fn with_cut(rt: &HostRuntime, all: Tallies, both: &[u32], i: usize) -> Tallies {
-    let job = if i < 6 { MIDDLE } else { i - 6 };
-    let mapping = if i < 6 { i } else { 6 };
-    compared(
-        rt,
-        all,
-        first(both, job),
-        first(after(both, MIDDLE), mapping),
-    )
+// The mapping cut short, to none of its words and more.
+fn mapping_cut(rt: &HostRuntime, all: Tallies, both: &[u32]) -> Tallies {
+    let mut all = all;
+    for size in 0..6 {
+        let mapping = first(after(both, MIDDLE), size);
+        all = compared(rt, all, first(both, MIDDLE), mapping);
+    }
+    all
 }
 
-// The mapping cut short, to none of its words and more; then the job.
-fn cut_short(rt: &HostRuntime, n: u32) -> Tallies {
-    let both = printed_at(n);
-    let mut all = none();
-    let mut i = 0;
-    while i < 20 {
-        let next = with_cut(rt, all, &both, i);
-        all = next;
-        i += 1;
+// The job cut short in the same way.
+fn job_cut(rt: &HostRuntime, all: Tallies, both: &[u32]) -> Tallies {
+    let mut all = all;
+    for size in 0..MIDDLE {
+        all = compared(rt, all, first(both, size), after(both, MIDDLE));
     }
     all
 }
@@ -113,18 +99,10 @@ fn without(both: &[u32], index: usize) -> [u32; 5] {
     words
 }
 
-fn with_left_out(rt: &HostRuntime, all: Tallies, both: &[u32], index: usize) -> Tallies {
-    compared(rt, all, first(both, MIDDLE), &without(both, index))
-}
-
-fn a_binding_left_out(rt: &HostRuntime, n: u32) -> Tallies {
-    let both = printed_at(n);
+fn a_binding_left_out(rt: &HostRuntime, both: [u32; 20]) -> Tallies {
     let mut all = none();
-    let mut index = 1;
-    while index < 5 {
-        let next = with_left_out(rt, all, &both, index);
-        all = next;
-        index += 1;
+    for index in 1..5 {
+        all = compared(rt, all, first(&both, MIDDLE), &without(&both, index));
     }
     all
 }
@@ -146,41 +124,42 @@ fn with_rule(
 }
 
 // Each of the six rules of the job instead of each of the four bindings.
-fn a_rule_bound(rt: &HostRuntime, n: u32) -> Tallies {
-    let both = printed_at(n);
+fn a_rule_bound(rt: &HostRuntime, both: [u32; 20]) -> Tallies {
     let mut all = none();
-    let mut i = 0;
-    while i < 24 {
-        let next = with_rule(rt, all, both, i % 6, i / 6);
-        all = next;
-        i += 1;
+    for i in 0..24 {
+        all = with_rule(rt, all, both, i % 6, i / 6);
     }
     all
 }
 
 // The bit that asks for the book, in the header of neither, of the job, of the mapping and of both.
-fn the_book_asked_for(rt: &HostRuntime, n: u32) -> Tallies {
-    let both = printed_at(n);
+fn the_book_asked_for(rt: &HostRuntime, both: [u32; 20]) -> Tallies {
     let asked = turned(both, BOOK_BIT);
     let of_job = with_both(rt, with_both(rt, none(), &both), &asked);
     let of_mapping = with_both(rt, of_job, &turned(both, JOB_BITS + BOOK_BIT));
     with_both(rt, of_mapping, &turned(asked, JOB_BITS + BOOK_BIT))
 }
 
-pub const NAMES: [u8; 125] = *b"as printed|a bit of the mapping changed|a bit of the job changed\
-    |cut short|a binding left out|a rule bound|the book asked for";
+// One change after another, at a width.
+pub fn report_one_change(rt: &HostRuntime, n: u32) {
+    let both = printed_at(n);
+    let printed = with_both(rt, none(), &both);
+    report(rt, b"as printed", n, printed);
+    let of_mapping = with_each_bit(rt, none(), both, JOB_BITS..BITS);
+    report(rt, b"a bit of the mapping changed", n, of_mapping);
+    let of_job = with_each_bit(rt, none(), both, 0..JOB_BITS);
+    report(rt, b"a bit of the job changed", n, of_job);
+    let cut = job_cut(rt, mapping_cut(rt, none(), &both), &both);
+    report(rt, b"cut short", n, cut);
+    report(rt, b"a binding left out", n, a_binding_left_out(rt, both));
+    report(rt, b"a rule bound", n, a_rule_bound(rt, both));
+    report(rt, b"the book asked for", n, the_book_asked_for(rt, both));
+}
 
-// By the index of its name; then two bits changed: of the mapping, and one of each.
-pub fn group(rt: &HostRuntime, which: u32, n: u32) -> Tallies {
-    match which {
-        0 => with_both(rt, none(), &printed_at(n)),
-        1 => with_each_bit(rt, none(), printed_at(n), JOB_BITS, BITS),
-        2 => with_each_bit(rt, none(), printed_at(n), 0, JOB_BITS),
-        3 => cut_short(rt, n),
-        4 => a_binding_left_out(rt, n),
-        5 => a_rule_bound(rt, n),
-        6 => the_book_asked_for(rt, n),
-        7 => two_bits(rt, n, JOB_BITS, BITS),
-        _ => two_bits(rt, n, 0, JOB_BITS),
-    }
+// Two bits changed, at a width.
+pub fn report_two_changes(rt: &HostRuntime, n: u32) {
+    let of_mapping = two_bits(rt, n, JOB_BITS..BITS);
+    report(rt, b"two bits of the mapping changed", n, of_mapping);
+    let of_each = two_bits(rt, n, 0..JOB_BITS);
+    report(rt, b"a bit of each changed", n, of_each);
 }

@@ -1,9 +1,7 @@
 // The checker and the pricer, each beside the reference's.
-use checker::Checked;
-use pricer::Priced;
-use reference::answer::{
-    Answer, OF_BOTH, OF_JOB, OF_MAPPING, PRICED, answered, same_answer, wrong,
-};
+use checker::CheckError;
+use fitting::PairError;
+use reference::answer::{Refusal, Subject, refused, wrong};
 use reference::trial::Witness;
 use rulings::checking::{check, price, wrong_is_borne_out};
 use testing::say;
@@ -38,24 +36,52 @@ fn is_shown(job: &[u32], mapping: &[u32], witness: words::Witness) -> bool {
     )
 }
 
-fn of_checked(answer: Checked, job: &[u32], mapping: &[u32]) -> Answer {
+fn of_checked(answer: Result<(), CheckError>, job: &[u32], mapping: &[u32]) -> Result<(), Refusal> {
     match answer {
-        Checked::Accepted => answered(OF_BOTH, 0, 0),
-        Checked::JobRefused(refusal) => answered(OF_JOB, refusal.number, refusal.place),
-        Checked::MappingRefused(refusal) => answered(OF_MAPPING, refusal.number, refusal.place),
-        Checked::Refused(refusal) => answered(OF_BOTH, refusal.number, refusal.place),
-        Checked::Wrong(witness) => {
-            wrong(OF_BOTH, witness.function, is_shown(job, mapping, witness))
+        Ok(()) => Ok(()),
+        Err(CheckError::JobRefused(refusal)) => Err(refused(
+            Subject::Job,
+            refusal.number,
+            refusal.place,
+        )),
+        Err(CheckError::MappingRefused(refusal)) => Err(refused(
+            Subject::Mapping,
+            refusal.number,
+            refusal.place,
+        )),
+        Err(CheckError::Refused(refusal)) => Err(refused(
+            Subject::Both,
+            refusal.number,
+            refusal.place,
+        )),
+        Err(CheckError::Wrong(witness)) => {
+            Err(wrong(
+                Subject::Both,
+                witness.function,
+                is_shown(job, mapping, witness),
+            ))
         }
     }
 }
 
-pub fn of_priced(answer: Priced) -> Answer {
+pub fn of_priced(answer: Result<u32, PairError>) -> Result<u32, Refusal> {
     match answer {
-        Priced::Count(count) => answered(PRICED, 0, count as usize),
-        Priced::JobRefused(refusal) => answered(OF_JOB, refusal.number, refusal.place),
-        Priced::MappingRefused(refusal) => answered(OF_MAPPING, refusal.number, refusal.place),
-        Priced::Refused(refusal) => answered(OF_BOTH, refusal.number, refusal.place),
+        Ok(count) => Ok(count),
+        Err(PairError::JobRefused(refusal)) => Err(refused(
+            Subject::Job,
+            refusal.number,
+            refusal.place,
+        )),
+        Err(PairError::MappingRefused(refusal)) => Err(refused(
+            Subject::Mapping,
+            refusal.number,
+            refusal.place,
+        )),
+        Err(PairError::Refused(refusal)) => Err(refused(
+            Subject::Both,
+            refusal.number,
+            refusal.place,
+        )),
     }
 }
 
@@ -84,16 +110,25 @@ fn with(
     noted(all, number, same)
 }
 
+// The number by which an answer is counted, 0 for no refusal.
+fn number_of(refusal: Option<Refusal>) -> u32 {
+    match refusal {
+        Some(refusal) => refusal.number,
+        None => 0,
+    }
+}
+
 fn with_check(rt: &HostRuntime, all: Numbers, job: &[u32], mapping: &[u32]) -> Numbers {
     let told = of_checked(checker::check(job, mapping), job, mapping);
-    let same = (told.number == 10) | same_answer(told, check(job, mapping));
-    with(rt, b"check", all, told.number, same, job, mapping)
+    let is_shown_wrong = told.is_err_and(|refusal| (refusal.number == 10) & refusal.shown);
+    let same = is_shown_wrong | (told == check(job, mapping));
+    with(rt, b"check", all, number_of(told.err()), same, job, mapping)
 }
 
 fn with_price(rt: &HostRuntime, all: Numbers, job: &[u32], mapping: &[u32]) -> Numbers {
     let told = of_priced(pricer::price(job, mapping));
-    let same = same_answer(told, price(job, mapping));
-    with(rt, b"price", all, told.number, same, job, mapping)
+    let same = told == price(job, mapping);
+    with(rt, b"price", all, number_of(told.err()), same, job, mapping)
 }
 
 // One job and mapping more.
@@ -108,12 +143,10 @@ pub fn compared(rt: &HostRuntime, all: Tallies, job: &[u32], mapping: &[u32]) ->
 
 // How many had each number that some had.
 fn say_refused(rt: &HostRuntime, by: [u64; 12]) {
-    let mut number = 1;
-    while number < 12 {
-        if by[number] != 0 {
-            say::line(rt, b", refused #: #", &[number as u64, by[number]]);
+    for (number, count) in by.iter().enumerate().skip(1) {
+        if *count != 0 {
+            say::line(rt, b", refused #: #", &[number as u64, *count]);
         }
-        number += 1;
     }
 }
 

@@ -8,27 +8,24 @@ use testing::words::{first, glue_word, word_of};
 // The vectors of the logic functions, from 6 on.
 const VECTORS: [u32; 16] = [0, 15, 1, 14, 7, 8, 6, 9, 3, 5, 12, 10, 4, 2, 13, 11];
 
-// Words written one after another.
+// Words written one after another, 64 at most.
 #[derive(Clone, Copy)]
 struct File {
     words: [u32; 64],
     size: usize,
 }
 
-// One word more, where b.
-fn with(file: File, b: bool, word: u32) -> File {
-    let mut words = file.words;
-    let size = file.size;
-    if b {
-        if size < 64 {
-            words[size] = word;
-            return File {
-                words,
-                size: size + 1,
-            };
+impl File {
+    fn written(&self) -> &[u32] {
+        first(&self.words, self.size)
+    }
+
+    fn push(&mut self, word: u32) {
+        if self.size < 64 {
+            self.words[self.size] = word;
+            self.size += 1;
         }
     }
-    File { words, size }
 }
 
 // One time in so many, by a function's own random number.
@@ -69,20 +66,16 @@ fn binding_of(function: u32, random: u64) -> u32 {
 }
 
 // The words of a kind.
-fn with_table(file: File, kind: u32, random: u64) -> File {
-    let mut file = file;
-    let mut function: u32 = 1;
-    while function < 28 {
-        let word = if kind == 6 {
-            binding_of(function, random)
-        } else {
-            word_of(kind, function)
-        };
-        let longer = with(file, has(kind, function, random), word);
-        file = longer;
-        function += 1;
+fn put_table(file: &mut File, kind: u32, random: u64) {
+    for function in 1..28 {
+        if has(kind, function, random) {
+            file.push(if kind == 6 {
+                binding_of(function, random)
+            } else {
+                word_of(kind, function)
+            });
+        }
     }
-    file
 }
 
 fn begun(n: u32) -> File {
@@ -92,53 +85,43 @@ fn begun(n: u32) -> File {
 }
 
 fn job_of(n: u32, random: u64) -> File {
-    let prices = 0x2000_0000 | (next(random) % 0x100_0000) as u32;
     let asked = if seldom(random, 2048, 2) { 128 } else { 0 };
-    with_table(
-        with_table(with(begun(n | asked), true, prices), 3, random),
-        4,
-        random,
-    )
+    let mut file = begun(n | asked);
+    file.push(0x2000_0000 | (next(random) % 0x100_0000) as u32);
+    put_table(&mut file, 3, random);
+    put_table(&mut file, 4, random);
+    file
 }
 
 fn mapping_of(job: &[u32], n: u32, random: u64) -> File {
     let width = if seldom(random, 1024, 40) { n ^ 1 } else { n };
-    let file = with_table(begun(width), 6, random);
-    let words = file.words;
-    let size = file.size;
+    let mut file = begun(width);
+    put_table(&mut file, 6, random);
     // The glue count's word is counted in, as the last.
-    let count = count_for(job, first(&words, std::num::wrapping_add_usize(size, 1)));
+    let size = std::num::wrapping_add_usize(file.size, 1);
+    let count = count_for(job, first(&file.words, size));
     let other = if seldom(random, 512, 6) {
         1 + random % 8
     } else {
         0
     };
-    with(file, true, glue_word(count ^ other))
+    file.push(glue_word(count ^ other));
+    file
 }
 
 fn with_random(rt: &HostRuntime, all: Tallies, n: u32, random: u64) -> Tallies {
     let job = job_of(n, random);
-    let job_words = job.words;
-    let mapping = mapping_of(&job_words, n, random);
-    let mapping_words = mapping.words;
-    compared(
-        rt,
-        all,
-        first(&job_words, job.size),
-        first(&mapping_words, mapping.size),
-    )
+    let mapping = mapping_of(&job.words, n, random);
+    compared(rt, all, job.written(), mapping.written())
 }
 
 // So many, at a width.
 pub fn random_files(rt: &HostRuntime, n: u32, count: u64) -> Tallies {
     let mut all = none();
     let mut random = next(0x2545_f491_4f6c_dd1d ^ (n as u64));
-    let mut i = 0;
-    while i < count {
-        let more = with_random(rt, all, n, random);
-        all = more;
+    for _ in 0..count {
+        all = with_random(rt, all, n, random);
         random = next(next(next(random)));
-        i += 1;
     }
     all
 }

@@ -1,6 +1,5 @@
 -- The choice: one source, and the end of the loop.
 use mathlib.Core.Path.{◌≡◌, refl, sym, ap, ◌∙◌}
-use mathlib.Core.Bool.{Bool, true, false}
 use mathlib.Core.List.{List, [], ◌∷◌, ◌++◌}
 use Prim.Native.Nat.{ℕ, ◌+◌, ◌-◌, ◌≤◌, ◌<◌}
 use native.Mathlib.Numerals.{add-one}
@@ -8,7 +7,7 @@ use native.Mathlib.Omega.{arith}
 use lib.Bits.{bit_or}
 use lib.ListN.{length, take, drop, get_or, set, drop_of_length-le, length-append, get_or-append}
 use lib.Seq.{take-suc-set, get_or-append-add}
-use Rattle.std.specs.Prelude.{if◌then◌else◌}
+use Rattle.std.specs.Prelude.{Option, Some, None, Result, Ok, Err}
 use Rattle.words.specs.Field.{source_function}
 use Rattle.words.proofs.Lists.{drop-next}
 use Rattle.reader.specs.declared.Job.{Job}
@@ -16,8 +15,8 @@ use Rattle.table.specs.Parts.{Terms, terms_with}
 use Rattle.usage.specs.Sets.{usage, usage_of}
 use Rattle.usage.proofs.Joining.{usage-more}
 use Rattle.tally.proofs.Joining.{glue_more}
-use Rattle.best.specs.Best.{no_rule, better, best_of}
-use Rattle.choice.specs.Choose.{Choice, Mapped, Unmappable, with_rule, choose}
+use Rattle.best.specs.Best.{better, best_of}
+use Rattle.choice.specs.Choose.{with_rule, bind_best, choose}
 use Rattle.best.specs.Beside.{besides}
 use Rattle.best.specs.declared.Best.{Best}
 use Rattle.best.proofs.Choosing.{best_same, one_rule_more}
@@ -37,50 +36,49 @@ module _ (rules book : List ℕ) (i : ℕ) where
     pub no_rule-left : count ≤ i → length (rules ++ book) ≤ i
     no_rule-left h = omega (arith, length-append rules book)
 
-    pub next_rule : (t : Terms) (f : ℕ) (g : ℕ → ℕ) (best whole next : Best) (w : ℕ) → i < count → w ≡ get_or (rules ++ book) i 0
+    pub next_rule : (t : Terms) (f : ℕ) (g : ℕ → ℕ) (best whole next : Option Best) (w : ℕ) → i < count → w ≡ get_or (rules ++ book) i 0
         → best_of g t f best (drop i (rules ++ book)) ≡ whole → next ≡ better g t f best w → best_of g t f next (drop (i + 1) (rules ++ book)) ≡ whole
     next_rule t f g best whole next w h ew e u =
         one_rule_more t f g (rules ++ book) best whole i e next (omega (arith, length-append rules book)) (u ∙ ap (better g t f best) ew)
 
 -- ---- a source
 
-module _ (j : Job) (ss ts rules sources words : List ℕ) (i used : ℕ) (whole : Choice)
+module _ (j : Job) (ss ts rules sources words : List ℕ) (i used : ℕ) (whole : Result (List ℕ) ℕ)
     (eu : used ≡ usage (take i words)) (e : choose (terms_with j ss ts) rules (take i words) (drop i sources) ≡ whole) where
   abbrev t : Terms
   t = terms_with j ss ts
 
-  module _ (h : i < length sources) (f : ℕ) (ef : f ≡ source_function (get_or sources i 0)) (best : Best)
-      (eb : best ≡ best_of (besides j.width j.prices used) (terms_with j ss ts) f no_rule rules) where
-    best_is : best_of (with_rule t (take i words)) t (source_function (get_or sources i 0)) no_rule rules ≡ best
+  module _ (h : i < length sources) (f : ℕ) (ef : f ≡ source_function (get_or sources i 0)) (best : Option Best)
+      (eb : best ≡ best_of (besides j.width j.prices used) (terms_with j ss ts) f None rules) where
+    best_is : best_of (with_rule t (take i words)) t (source_function (get_or sources i 0)) None rules ≡ best
     best_is =
         best_same t (source_function (get_or sources i 0)) (with_rule t (take i words)) (besides j.width j.prices used)
-        (λ w. sym (glue_more j.width j.prices (take i words) w) ∙ ap (λ (x : ℕ). besides j.width j.prices x w) (sym eu)) no_rule rules
-        ∙ ap (λ (x : ℕ). best_of (besides j.width j.prices used) t x no_rule rules) (sym ef) ∙ sym eb
+        (λ w. sym (glue_more j.width j.prices (take i words) w) ∙ ap (λ (x : ℕ). besides j.width j.prices x w) (sym eu)) None rules
+        ∙ ap (λ (x : ℕ). best_of (besides j.width j.prices used) t x None rules) (sym ef) ∙ sym eb
 
-    opened : (if best.found then choose t rules (take i words ++ best.word ∷ []) (drop (i + 1) sources) else Unmappable f) ≡ whole
+    opened : (b : Option Best) → best ≡ b → bind_best b f (λ w. choose t rules (take i words ++ w ∷ []) (drop (i + 1) sources)) ≡ whole
     unfolding choose
-    opened =
-        sym (ap (λ (b : Best). if b.found then choose t rules (take i words ++ b.word ∷ []) (drop (i + 1) sources)
-        else Unmappable (source_function (get_or sources i 0))) best_is
-        ∙ ap (λ (x : ℕ). if best.found then choose t rules (take i words ++ best.word ∷ []) (drop (i + 1) sources) else Unmappable x) (sym ef))
+    opened b u =
+        ap (λ (x : Option Best). bind_best x f (λ w. choose t rules (take i words ++ w ∷ []) (drop (i + 1) sources))) (sym (best_is ∙ u))
+        ∙ ap (λ (x : ℕ). bind_best (best_of (with_rule t (take i words)) t (source_function (get_or sources i 0)) None rules) x
+        (λ w. choose t rules (take i words ++ w ∷ []) (drop (i + 1) sources))) ef
         ∙ (rw (drop-next sources i h) at e)
 
-    one_more : i < length words → take (i + 1) (set words i best.word) ≡ take i words ++ best.word ∷ []
-    one_more l = rw add-one (take-suc-set words i best.word l)
+    one_more : (w : ℕ) → i < length words → take (i + 1) (set words i w) ≡ take i words ++ w ∷ []
+    one_more w l = rw add-one (take-suc-set words i w l)
 
-    pub source_bound : best.found ≡ true → i < length words
-        → choose (terms_with j ss ts) rules (take (i + 1) (set words i best.word)) (drop (i + 1) sources) ≡ whole
-    source_bound hb l = rw (one_more l) (rw hb at opened)
+    pub source_bound : (b : Best) → best ≡ Some b → i < length words
+        → choose (terms_with j ss ts) rules (take (i + 1) (set words i b.word)) (drop (i + 1) sources) ≡ whole
+    source_bound b u l = rw (one_more b.word l) (opened (Some b) u)
 
-    pub source_used : (u : ℕ) → i < length words → u ≡ usage_of best.word → bit_or used u ≡ usage (take (i + 1) (set words i best.word))
-    source_used u l v = rw (one_more l) (rw (usage-more (take i words) best.word) (rw (eu, v) refl))
+    pub source_used : (w u : ℕ) → i < length words → u ≡ usage_of w → bit_or used u ≡ usage (take (i + 1) (set words i w))
+    source_used w u l v = rw (one_more w l) (rw (usage-more (take i words) w) (rw (eu, v) refl))
 
-    pub source_unmappable : best.found ≡ false → Unmappable f ≡ whole
-    source_unmappable hb = rw hb at opened
+    pub source_unmappable : best ≡ None → Err f ≡ whole
+    source_unmappable u = opened None u
 
-  pub all_sources : (mapped : Bool) (f : ℕ) → length sources ≤ i → i ≤ length sources → mapped ≡ true
-      → (if mapped then Mapped (take (length sources) words) else Unmappable f) ≡ whole
+  pub all_sources : i ≡ length sources → Ok (take (length sources) words) ≡ whole
   unfolding choose
-  all_sources mapped f l h hm =
-      let k : i ≡ length sources = omega arith in
-      rw hm (ap (λ (x : ℕ). Mapped (take x words)) (sym k) ∙ (rw (drop_of_length-le sources l) at e))
+  all_sources k =
+      let l : length sources ≤ i = omega arith in
+      ap (λ (x : ℕ). Ok (take x words)) (sym k) ∙ (rw (drop_of_length-le sources l) at e)

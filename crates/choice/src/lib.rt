@@ -12,13 +12,11 @@ use best::Best;
 use reader::Job;
 use sequence::MOST_SOURCES;
 
-// A rule for each source in table order and what they use, or the place of the source that proves unmappable.
+// A rule for each source in table order, and what they use.
 #[derive(Clone, Copy)]
 pub struct Chosen {
     pub words: [u32; MOST_SOURCES],
     pub used: u64,
-    pub mapped: bool,
-    pub unmappable: u32,
 }
 
 // A rule by its index, where the book's stand behind the job's own.
@@ -33,8 +31,14 @@ fn rule_at(rules: &[u32], book: &[u32], index: usize) -> u32
 }
 
 // "Sources are taken in order; each gets the usable rule that makes the glue of the bindings so far least, the earlier rule on equal
-// glue." The loop over the sources is left from inside when a function proves unmappable.
-pub fn choose(job: Job, sources: &[u32], targets: &[u32], rules: &[u32], book: &[u32]) -> Chosen
+// glue." The loop over the sources is left from inside when a function proves unmappable, which is the error.
+pub fn choose(
+    job: Job,
+    sources: &[u32],
+    targets: &[u32],
+    rules: &[u32],
+    book: &[u32],
+) -> Result<Chosen, u32>
     requires { Q.Width job.width × (length sources.now ≤ most_sources) × K.FewRules rules.now book.now }
     ensures { K.KeptChoice result (length sources.now)
         (C.choose (T.terms_with job sources.now targets.now) (rules.now ++ book.now) [] sources.now) }
@@ -42,39 +46,30 @@ pub fn choose(job: Job, sources: &[u32], targets: &[u32], rules: &[u32], book: &
     let count = rules.len() + book.len();
     let mut bound = [0u32; MOST_SOURCES];
     let mut used: u64 = 0;
-    let mut mapped = true;
-    let mut unmappable: u32 = 0;
-    let mut i = 0;
-    'sources: while i < sources.len() {
-        let function = words::source_function(sources[i]);
-        let mut best = Best {
-            found: false,
-            word: 0,
-            total: 0,
-        };
+    let mut unmappable: Option<u32> = None;
+    'sources: for (i, source) in sources.iter().enumerate() {
+        let function = words::source_function(*source);
+        let mut best: Option<Best> = None;
         let mut j = 0;
-        loop {
+        let chosen = loop {
             if count <= j {
-                if best.found {
-                    break;
+                match best {
+                    Some(found) => break found,
+                    None => {
+                        unmappable = Some(function);
+                        break 'sources;
+                    }
                 }
-                mapped = false;
-                unmappable = function;
-                break 'sources;
             }
             let rule = rule_at(rules, book, j);
-            let next = best::consider(best, rule, function, used, job, sources, targets);
-            best = next;
+            best = best::consider(best, rule, function, used, job, sources, targets);
             j += 1;
-        }
-        bound[i] = best.word;
-        used = used | usage::usage_of(best.word);
-        i += 1;
+        };
+        bound[i] = chosen.word;
+        used = used | usage::usage_of(chosen.word);
     }
-    Chosen {
-        words: bound,
-        used,
-        mapped,
-        unmappable,
+    match unmappable {
+        Some(function) => Err(function),
+        None => Ok(Chosen { words: bound, used }),
     }
 }

@@ -2,49 +2,65 @@
 use mathlib.Core.Path.{◌≡◌, refl, sym, ap, ◌∙◌}
 use mathlib.Core.Bool.{Bool, true, false}
 use mathlib.Core.List.{List, [], ◌∷◌, ◌++◌, append-nil, append_assoc}
-use Prim.Native.Nat.{ℕ, zero, suc, ◌+◌, ◌≤◌, ◌<◌}
+use Prim.Native.Nat.{ℕ, zero, suc, ◌+◌, ◌*◌, ◌%◌, ◌^◌, ◌≤◌, ◌<◌}
 use native.Mathlib.Decide.{dec_lt}
 use native.Mathlib.Omega.{arith}
 use borrow.Author.Tests.{ne_eqb, le-leb, lt-ltb, le-ltb, ltb-true, ltb-false}
 use lib.Dec.{eqb, leb, ltb}
 use lib.ListN.{length, take, drop, set, length-set}
 use lib.Seq.{take_all, take-nil, take-suc, take-set-le, take-append-le, length-take-le, get_or-set_same}
-use Rattle.std.specs.Prelude.{if◌then◌else◌}
-use Rattle.text.specs.Text.{bytes, same}
-use Rattle.hexadecimal.specs.Hex.{digit_of, between, ended, with_digit, digits_left}
+use Rattle.std.specs.Prelude.{Option, None, Some, ◌&&◌, if◌then◌else◌}
+use Rattle.std.proofs.Common.{nat_eq}
+use Rattle.std.specs.Option.{option_map, option_and_then}
+use Rattle.std.specs.Str.{bytes_eq}
+use Rattle.words.proofs.Choices.{either}
+use Rattle.text.specs.Text.{bytes}
+use Rattle.hexadecimal.specs.Hex.{digit_of, between, ended, with_digit, digits_left, last_word}
 use Rattle.hexadecimal.specs.declared.Hex.{Hex}
-use Rattle.hexadecimal.specs.declared.Step.{Step}
-use Rattle.hexadecimal.specs.declared.Step.TheVariants.{Bad}
 use Rattle.commands.specs.Commands.{passed_over, release_command, command_with, command_of, line_bytes, empty_line, with_byte, command_in, line_of}
 use Rattle.commands.specs.declared.Line.{Line}
 
 -- ---- the start of a line is the line, to each test of it
 
-same_start : (k : ℕ) (a b : List ℕ) → length b < k → same (take k a) b ≡ same a b
-unfolding same
+same_start : (k : ℕ) (a b : List ℕ) → length b < k → bytes_eq (take k a) b ≡ bytes_eq a b
 same_start zero a b h = absurd (omega arith)
 same_start (suc k) [] b h = refl
 same_start (suc k) (x ∷ a) [] h = refl
-same_start (suc k) (x ∷ a) (y ∷ b) h = ap (λ (r : Bool). if eqb x y then r else false) (same_start k a b (omega arith))
+same_start (suc k) (x ∷ a) (y ∷ b) h = ap (λ (r : Bool). nat_eq x y && r) (same_start k a b (omega arith))
 
 start_passed : (k : ℕ) (line : List ℕ) → passed_over (take (suc k) line) ≡ passed_over line
 start_passed k [] = refl
 start_passed k (b ∷ line) = refl
 
 -- more than eight digits are no word
-long_bad : (h : Hex) → 9 ≤ h.digits → ended h false ≡ Bad
+long_bad : (h : Hex) → 9 ≤ h.digits → last_word h ≡ None
 unfolding ended
-long_bad h l =
-    rw (ne_eqb h.digits 0 (λ e. omega (arith, e)), ne_eqb h.digits 8 (λ e. omega (arith, e))) refl
+long_bad h l = rw (ne_eqb h.digits 0 (λ e. omega (arith, e)), ne_eqb h.digits 8 (λ e. omega (arith, e))) refl
 
-digits_start : (k : ℕ) (h : Hex) (text : List ℕ) → 9 ≤ k + h.digits → digits_left h (take k text) ≡ digits_left h text
-unfolding digits_left
+ninth_bad : (h : Hex) (b : ℕ) → 8 ≤ h.digits → with_digit h b ≡ None
+unfolding with_digit
+ninth_bad h b l = rw (le-leb 8 h.digits l) refl
+
+-- the word behind some digits
+abbrev behind : List ℕ → Option Hex → Option ℕ
+behind text o = option_and_then last_word (option_and_then (λ (h : Hex). digits_left h text) o)
+
+digit_start : (k : ℕ) (text : List ℕ) (f : ℕ → Hex) (o : Option ℕ)
+    → ((d : ℕ) → behind (take k text) (Some (f d)) ≡ behind text (Some (f d))) → behind (take k text) (option_map f o) ≡ behind text (option_map f o)
+digit_start k text f None g = refl
+digit_start k text f (Some d) g = g d
+
+abbrev one_more : Hex → ℕ → Hex
+one_more h d = record { digits = h.digits + 1; value = h.value % 2 ^ 28 * 16 + d; comment = false }
+
+digits_start : (k : ℕ) (h : Hex) (text : List ℕ) → 9 ≤ k + h.digits → behind (take k text) (Some h) ≡ behind text (Some h)
+unfolding digits_left with_digit
 digits_start zero h [] l = refl
 digits_start (suc k) h [] l = refl
-digits_start zero h (b ∷ text) l = long_bad h (omega arith) ∙ rw (le-leb 8 h.digits (omega arith)) refl
+digits_start zero h (b ∷ text) l = long_bad h (omega arith) ∙ sym (ap (behind text) (ninth_bad h b (omega arith)))
 digits_start (suc k) h (b ∷ text) l =
-    ap (λ (r : Step). if leb 8 h.digits then Bad else if leb 16 (digit_of b) then Bad else r)
-    (digits_start k (with_digit h (digit_of b)) text (omega arith))
+    either (λ (o : Option Hex). behind (take k text) o ≡ behind text o) (leb 8 h.digits) {x = None} {y = option_map (one_more h) (digit_of b)}
+    (λ _. refl) (λ _. digit_start k text (one_more h) (digit_of b) (λ d. digits_start k (one_more h d) text (omega arith)))
 
 start_of_start : (j k : ℕ) (line : List ℕ) → j ≤ k → take j (take k line) ≡ take j line
 start_of_start zero k line h = refl

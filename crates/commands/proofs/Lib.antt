@@ -1,3 +1,3 @@
-pub mod Meaning
 pub mod Lines
+pub mod Release
 pub mod Kept

@@ -9,6 +9,7 @@ use mir.Val.{Val}
 use denote.Laws.{Is}
 use denote.Struct.Declared.{row}
 use Rattle.commands.specs.Commands.{command_of, line_bytes, command_in}
+use Rattle.std.specs.Prelude.{Option}
 use Rattle.commands.specs.declared.Command.{Command}
 use Rattle.commands.specs.declared.Line.{Line}
 use Rattle.commands.specs.contracts.Line.{the_type}
@@ -18,7 +19,7 @@ pub line_shaped : (l : Line) (vs : List Val) → Is (row the_type) l vs → leng
 line_shaped l vs g = g.1.1.0.1.0.1
 
 module _ (l : Line) (h : length l.bytes ≡ line_bytes) where
-  pub full_line : (r : Command) → line_bytes < l.length → r ≡ command_of l.bytes → r ≡ command_in l
+  pub full_line : (r : Option Command) → line_bytes < l.length → r ≡ command_of l.bytes → r ≡ command_in l
   full_line r k e = e ∙ ap command_of (sym (take_all l.length l.bytes (omega arith)))
 
   pub bytes_fit : l.length ≤ line_bytes → l.length ≤ length l.bytes

@@ -1,13 +1,11 @@
 // The commands of work_bench: what a line means, and a line as it is read.
 #![tactic(auto)]
 
-ghost use Rattle.std.specs.Prelude.{◌≡◌, []};
+ghost use Rattle.std.specs.Prelude.{◌≡◌};
 ghost use Rattle.hexadecimal.specs.Hex as T;
 ghost use Rattle.commands.specs.Commands as C;
 
-use hexadecimal::Step;
-
-// A line passed over; a command of the bench; or neither.
+// A line passed over, or a command of the bench.
 #[derive(Clone, Copy)]
 pub enum Command {
     Pass,
@@ -16,7 +14,6 @@ pub enum Command {
     Price,
     Show,
     Finish,
-    Unknown,
 }
 
 // How many bytes of a line are kept. No command has so many.
@@ -40,6 +37,7 @@ pub fn empty_line() -> Line
 }
 
 // A byte more, if it is kept.
+#[tactic(auto, unfolding(crate::specs::Commands::with_byte))]
 pub fn with_byte(mut line: Line, byte: u8) -> Line
     ensures { result ≡ C.with_byte line byte }
 {
@@ -54,107 +52,77 @@ pub fn with_byte(mut line: Line, byte: u8) -> Line
 fn passed_over(line: &[u8]) -> bool
     ensures { result ≡ C.passed_over line.now }
 {
-    if line.len() == 0 {
-        return true;
+    match line {
+        [] => true,
+        [first, ..] => *first == b'#',
     }
-    line[0] == b'#'
 }
 
 // A bind of the word whose digits these are.
-fn bind_command(digits: &[u8]) -> Command
+fn bind_command(digits: &[u8]) -> Option<Command>
     ensures { result ≡ C.bind_command (T.word_in digits.now) }
 {
-    let step = hexadecimal::word_in(digits);
-    match step {
-        Step::Word(word, _) => Command::Bind(word),
-        Step::More(_) => Command::Unknown,
-        Step::Bad => Command::Unknown,
-    }
+    Some(Command::Bind(hexadecimal::word_in(digits)?))
 }
 
-// The least number that is too large for a function's.
-const TOO_LARGE: u64 = 4294967296;
+// How many decimal digits there are.
+const DIGITS: u32 = 10;
 
 // A release of the function whose decimal digits these are.
-fn release_command(digits: &[u8]) -> Command
+#[tactic(auto, unfolding(crate::specs::Commands::release_command))]
+fn release_command(digits: &[u8]) -> Option<Command>
     ensures { result ≡ C.release_command digits.now }
 {
-    if digits.len() < 1 {
-        return Command::Unknown;
+    if digits.is_empty() || 10 < digits.len() {
+        return None;
     }
-    if 10 < digits.len() {
-        return Command::Unknown;
-    }
-    let mut function: u64 = 0;
-    let mut i = 0;
-    while i < digits.len() {
-        if TOO_LARGE <= function {
-            return Command::Unknown;
+    let mut function: u32 = 0;
+    for byte in digits {
+        let digit = hexadecimal::digit_of(*byte)?;
+        if DIGITS <= digit {
+            return None;
         }
-        let digit = hexadecimal::digit_of(digits[i]);
-        if 10 <= digit {
-            return Command::Unknown;
-        }
-        function = function * 10 + digit as u64;
-        i += 1;
+        function = function.checked_mul(10)?.checked_add(digit)?;
     }
-    release_of(function)
-}
-
-// A release, if the number is not too large.
-fn release_of(function: u64) -> Command
-    ensures { result ≡ C.digits_release function [] }
-{
-    if TOO_LARGE <= function {
-        return Command::Unknown;
-    }
-    Command::Release(function as u32)
-}
-
-fn begins(line: &[u8], text: &[u8]) -> bool
-    ensures { result ≡ C.begins line.now text.now }
-{
-    let length = text.len();
-    if line.len() < length {
-        return false;
-    }
-    text::same(&line[..length], text)
+    Some(Command::Release(function))
 }
 
 // "bind " and a word's digits, "release " and a function's, or no command.
-fn command_with(line: &[u8]) -> Command
+#[tactic(auto, unfolding(crate::specs::Commands::command_with))]
+fn command_with(line: &[u8]) -> Option<Command>
     ensures { result ≡ C.command_with line.now }
 {
-    if begins(line, b"bind ") {
-        return bind_command(&line[5..]);
+    if let Some(digits) = line.strip_prefix(b"bind ") {
+        return bind_command(digits);
     }
-    if begins(line, b"release ") {
-        return release_command(&line[8..]);
+    if let Some(digits) = line.strip_prefix(b"release ") {
+        return release_command(digits);
     }
-    Command::Unknown
+    None
 }
 
-// What a line means.
-fn command_of(line: &[u8]) -> Command
+// What a line means, if it means anything.
+#[tactic(auto, unfolding(crate::specs::Commands::command_of))]
+fn command_of(line: &[u8]) -> Option<Command>
     ensures { result ≡ C.command_of line.now }
 {
     if passed_over(line) {
-        return Command::Pass;
+        return Some(Command::Pass);
     }
-    if text::same(line, b"price") {
-        return Command::Price;
+    if line == b"price".as_slice() {
+        return Some(Command::Price);
     }
-    if text::same(line, b"show") {
-        return Command::Show;
+    if line == b"show".as_slice() {
+        return Some(Command::Show);
     }
-    if text::same(line, b"finish") {
-        return Command::Finish;
+    if line == b"finish".as_slice() {
+        return Some(Command::Finish);
     }
     command_with(line)
 }
 
 // What a line that was read means.
-pub fn command_in(line: Line) -> Command
+pub fn command_in(line: Line) -> Option<Command>
     ensures { result ≡ C.command_in line }
 {
     let bytes = line.bytes;

@@ -8,27 +8,17 @@ ghost use Rattle.completeness.specs.Complete as C;
 fn binds(bindings: &[u32], function: u32) -> bool
     ensures { result ≡ C.binds bindings.now function }
 {
-    let mut i = 0;
-    while i < bindings.len() {
-        if recipe::source_of(bindings[i]) == function {
-            return true;
-        }
-        i += 1;
-    }
-    false
+    bindings
+        .iter()
+        .any(|word| recipe::source_of(*word) == function)
 }
 
-// The function of the first source without a binding, or NO_FUNCTION.
-pub fn first_unbound(sources: &[u32], bindings: &[u32]) -> u32
+// The function of the first source without a binding.
+pub fn first_unbound(sources: &[u32], bindings: &[u32]) -> Option<u32>
     ensures { result ≡ C.first_unbound sources.now bindings.now }
 {
-    let mut i = 0;
-    while i < sources.len() {
-        let function = words::source_function(sources[i]);
-        if !binds(bindings, function) {
-            return function;
-        }
-        i += 1;
-    }
-    alu::NO_FUNCTION
+    sources
+        .iter()
+        .map(|word| words::source_function(*word))
+        .find(|function| !binds(bindings, *function))
 }

@@ -46,27 +46,15 @@ pub struct Stdin {
     bytes: [u8; BUFFER],
     at: usize,
     end: usize,
+    ghost held: { end ≤ 512 },
 }
 
-// A byte, the end of standard input, or a read that failed.
+// A read failed, which was said.
 #[derive(Clone, Copy)]
-pub enum Got {
-    Byte(u8),
-    End,
-    Failed,
-}
-
-// What was got, and standard input after it.
-#[derive(Clone, Copy)]
-pub struct Taken {
-    pub stdin: Stdin,
-    pub got: Got,
-}
+pub struct Failed;
 
 // Standard input before anything is read.
-pub fn unread() -> Stdin
-    ensures { result.end ≤ 512 }
-{
+pub fn unread() -> Stdin {
     Stdin {
         bytes: [0; BUFFER],
         at: 0,
@@ -74,49 +62,32 @@ pub fn unread() -> Stdin
     }
 }
 
-// Reads more, and takes the first byte.
-fn refilled(rt: &HostRuntime) -> Taken
-    ensures { result.stdin.end ≤ 512 }
-{
-    let mut bytes = [0u8; BUFFER];
-    let end = match rt.stdin().read(&mut bytes) {
-        Ok(count) => count,
-        Err(why) => {
-            fail(rt, b"standard input", why);
-            return Taken {
-                stdin: unread(),
-                got: Got::Failed,
-            };
-        }
-    };
-    if end == 0 {
-        return Taken {
-            stdin: unread(),
-            got: Got::End,
-        };
-    }
-    let first = bytes[0];
-    Taken {
-        stdin: Stdin { bytes, at: 1, end },
-        got: Got::Byte(first),
-    }
-}
-
 impl Stdin {
-    // Takes the next byte. A read that fails is said on standard error.
-    pub fn next(mut self, rt: &HostRuntime) -> Taken
-        requires { self.end ≤ 512 }
-        ensures { result.stdin.end ≤ 512 }
-    {
-        let at = self.at;
-        if self.end <= at {
-            return refilled(rt);
+    // Reads more in the place of what was taken.
+    fn refill(&mut self, rt: &HostRuntime) -> Result<(), Failed> {
+        let mut bytes = [0u8; BUFFER];
+        match rt.stdin().read(&mut bytes) {
+            Ok(end) => {
+                *self = Stdin { bytes, at: 0, end };
+                Ok(())
+            }
+            Err(why) => {
+                fail(rt, b"standard input", why);
+                Err(Failed)
+            }
         }
-        let byte = self.bytes[at];
-        self.at = at + 1;
-        Taken {
-            stdin: self,
-            got: Got::Byte(byte),
+    }
+
+    // Takes the next byte; there is none at the end of standard input. A read that fails is said on standard error.
+    pub fn next(&mut self, rt: &HostRuntime) -> Result<Option<u8>, Failed> {
+        if self.end <= self.at {
+            self.refill(rt)?;
         }
+        if self.end <= self.at {
+            return Ok(None);
+        }
+        let byte = self.bytes[self.at];
+        self.at += 1;
+        Ok(Some(byte))
     }
 }

@@ -17,7 +17,7 @@ use Rattle.table.specs.Table.{lists_source, in_job}
 use Rattle.claims.specs.Claim.{claim_in}
 use Rattle.table.proofs.Entries as entries
 use Rattle.fitting.specs.Fitting.{fit_of}
-use Rattle.fitting.specs.declared.Fit.TheVariants.{Fits}
+use Rattle.std.specs.Prelude.{Ok}
 use Rattle.fitting.proofs.Fitted.{fits_exactly}
 use Rattle.pricer.specs.Pricing.{glue_of}
 use Rattle.writer.specs.Write.{binding_word, binding_words}
@@ -52,7 +52,7 @@ module _ (ws : List ℕ) (job : Job) (e : WellFormedJob ws job) (bound : List �
       (ap (lists_source (sources_of ws job)) (source_same w) ∙ source_listed k k')
       (has_target-same w (targets_of ws job) ∙ b.target_there k k')
 
-  fits : fit_of (terms_of ws job) (written ws job e bound b) (bindings_of (chosen_words job bound) (written ws job e bound b)) ≡ Fits
+  fits : fit_of (terms_of ws job) (written ws job e bound b) (bindings_of (chosen_words job bound) (written ws job e bound b)) ≡ Ok tt
   fits =
       rw (same_bindings ws job e bound b)
       ((fits_exactly (terms_of ws job) (written ws job e bound b) (binding_words bound)).1 (refl, in_job_lem))

@@ -11,26 +11,24 @@ use Rattle.reader.specs.declared.Job.{Job}
 use Rattle.reader.specs.declared.Mapping.{Mapping}
 use Rattle.table.specs.Parts.{terms_of}
 use Rattle.fitting.specs.Pair.{pair_of}
-use Rattle.fitting.specs.declared.Pair.{Pair}
-use Rattle.fitting.specs.declared.Pair.TheVariants as pair
+use Rattle.std.specs.Prelude.{Result, Ok, Err, ⊤}
+use Rattle.checker.specs.declared.CheckError.{CheckError}
+use Rattle.fitting.specs.declared.PairError.{PairError}
 use Rattle.fitting.proofs.Pairs.{of_pair}
 use Rattle.checker.specs.Check.{paper_of, CheckRuled, ruled_of, ruling_of, Checks}
-use Rattle.checker.specs.declared.Checked.{Checked}
-use Rattle.checker.specs.declared.Checked.TheVariants.{Accepted}
 use Rattle.demands.specs.Mapped.{source_at, Fitting, Bound, Complete, RightAt, RightlyMapped, NamesUnbound, NamesWrong}
 use Rattle.demands.proofs.ByIndex.{fitted, accepting, accepted_judged, lowest_unbound, lowest_wrong}
 use Rattle.demands.proofs.Papers.{accepted_paper}
 
-accepted_pair : (jw mw : List ℕ) (p : Pair) → pair_of jw mw ≡ p → CheckRuled (ruled_of jw mw p) Accepted → RightlyMapped jw mw
-accepted_pair jw mw (pair.Read j m) e h = let r = of_pair jw mw j m e in accepted_judged jw mw j m r.0 r.1 h
-accepted_pair jw mw (pair.JobRefused x) e h = absurd (let z : ◌≡◌ {A = ℕ} 0 1 = cc in omega arith)
-accepted_pair jw mw (pair.MappingRefused x) e h = absurd (let z : ◌≡◌ {A = ℕ} 0 1 = cc in omega arith)
+accepted_pair : (jw mw : List ℕ) (p : Result (Job × Mapping) PairError) → pair_of jw mw ≡ p → CheckRuled (ruled_of jw mw p) (Ok tt) → RightlyMapped jw mw
+accepted_pair jw mw (Ok (j, m)) e h = let r = of_pair jw mw j m e in accepted_judged jw mw j m r.0 r.1 h
+accepted_pair jw mw (Err x) e h = absurd (let z : ◌≡◌ {A = ℕ} 0 1 = cc in omega arith)
 
-module _ (jw mw : List ℕ) (r : Checked) (answer : Checks jw mw r) where
+module _ (jw mw : List ℕ) (r : Result ⊤ CheckError) (answer : Checks jw mw r) where
   rightly_mapped : paper_of r ≡ accepted [] → RightlyMapped jw mw
   unfolding ruling_of
   rightly_mapped e =
-      accepted_pair jw mw (pair_of jw mw) refl (subst (λ (x : Checked). Checks jw mw x) (accepted_paper jw mw r answer e) answer)
+      accepted_pair jw mw (pair_of jw mw) refl (subst (λ (x : Result ⊤ CheckError). Checks jw mw x) (accepted_paper jw mw r answer e) answer)
 
   has_passed : RightlyMapped jw mw → paper_of r ≡ accepted []
   has_passed q =
@@ -39,7 +37,7 @@ module _ (jw mw : List ℕ) (r : Checked) (answer : Checks jw mw r) where
       let ej = q.fitting.job_well_formed in
       let em = q.fitting.mapping_well_formed in
       let ruled = fitted jw mw j m ej em q.fitting.fits ∙ accepting jw mw j m ej em q.complete q.all_right q.rightly_priced in
-      ap paper_of (subst (λ (x : Ruling Checked). CheckRuled x r) ruled answer)
+      ap paper_of (subst (λ (x : Ruling (Result ⊤ CheckError)). CheckRuled x r) ruled answer)
 
   -- Accepted exactly if job and mapping are well formed, the mapping fits, is complete, all its bindings are right at the job's width
   -- for every left, every right and both carries, and it is rightly priced.

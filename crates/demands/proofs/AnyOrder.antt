@@ -19,7 +19,7 @@ use Rattle.wellformed.proofs.JobWords.{JobFacts, well_formed}
 use Rattle.table.specs.Parts.{sources_of}
 use Rattle.table.specs.Table.{lists_source, has_target}
 use Rattle.table.proofs.Entries.{in_job-when}
-use Rattle.choice.specs.Choose.{Mapped}
+use Rattle.std.specs.Prelude.{Ok}
 use Rattle.mapper.specs.Mapping.{choice_of}
 use Rattle.soundness.specs.Sound.{sources_on, targets_on, rule_fault}
 use Rattle.soundness.proofs.Soundness.{a_rule}
@@ -122,7 +122,7 @@ entry_of_lem (s ∷ ss) (suc k) h apart =
 
 -- ---- the choice
 
-module _ (ws : List ℕ) (job : Job) (e : WellFormedJob ws job) (bound : List ℕ) (eb : choice_of ws job ≡ Mapped bound) where
+module _ (ws : List ℕ) (job : Job) (e : WellFormedJob ws job) (bound : List ℕ) (eb : choice_of ws job ≡ Ok bound) where
   facts : JobFacts ws job
   facts = well_formed ws job e
 

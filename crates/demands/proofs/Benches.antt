@@ -9,7 +9,8 @@ use Rattle.words.specs.Field.{source_function}
 use Rattle.sequence.specs.Limits.{most_sources, most_targets}
 use Rattle.reader.specs.Job.{WellFormedJob}
 use Rattle.reader.specs.declared.Job.{Job}
-use Rattle.reader.specs.declared.JobRead.{JobRead}
+use Rattle.std.specs.Prelude.{Result}
+use Rattle.words.specs.declared.Refusal.{Refusal}
 use Rattle.wellformed.proofs.JobWords.{JobFacts, well_formed}
 use Rattle.table.specs.Parts.{sources_of, targets_of}
 use Rattle.table.specs.Table.{has_target}
@@ -62,7 +63,7 @@ module _ (ws : List ℕ) (job : Job) where
 
     pub opens : (open_of ws).bench ≡ opened ws job
     unfolding open_of
-    opens = ap (λ (x : JobRead). (open_for ws x).bench) e
+    opens = ap (λ (x : Result Job Refusal). (open_for ws x).bench) e
 
     pub reached_of_job : (b : Bench) → Reached ws b → BenchOf ws job b
     unfolding price_of finish_of

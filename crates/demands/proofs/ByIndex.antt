@@ -2,17 +2,17 @@
 use mathlib.Core.Path.{◌≡◌, refl, sym, ap, subst, ◌∙◌}
 use mathlib.Core.Bool.{true, false, not, false≢true}
 use mathlib.Core.List.{List, [], ◌∷◌}
-use Prim.Native.Nat.{ℕ, ◌≤◌, ◌<◌}
+use Prim.Native.Nat.{ℕ, ◌<◌}
 use native.Mathlib.Omega.{arith}
 use lib.Dec.{eqb}
 use lib.ListN.{length, get_or}
-use borrow.Author.Tests.{eq-eqb, ne_eqb, eqb-true, not-false}
-use Rattle.words.specs.Field.{content_of, source_function}
+use borrow.Author.Tests.{eq-eqb, eqb-true, not-false}
+use Rattle.words.specs.Field.{content_of}
 use Rattle.words.specs.Paper.{refusal, source_place, refused_with}
 use Rattle.words.specs.declared.Witness.{Witness}
 use Rattle.words.proofs.Choices.{either, false_of}
 use Rattle.bits.specs.Bits.{num}
-use Rattle.alu.specs.Function.{no_function}
+use Rattle.std.specs.Prelude.{Option, Some, None, Result, Ok, Err, ⊤}
 use Rattle.recipe.specs.Fields.{source_of}
 use Rattle.binding.specs.Right.{Right, is_right}
 use Rattle.binding.specs.declared.Claim.{Claim}
@@ -28,15 +28,14 @@ use Rattle.wellformed.proofs.MappingWords as mappings
 use Rattle.table.specs.Parts.{sources_of, bindings_of, Terms, terms_of}
 use Rattle.claims.specs.Claim.{claim_in}
 use Rattle.fitting.specs.Fitting.{fit_of}
-use Rattle.fitting.specs.declared.Fit.{Fit}
-use Rattle.fitting.specs.declared.Fit.TheVariants.{Fits, Misfit}
-use Rattle.fitting.proofs.Pairs.{both_read}
+use Rattle.checker.specs.declared.CheckError.{CheckError}
+use Rattle.words.specs.declared.Refusal.{Refusal}
+use Rattle.fitting.proofs.Pairs.{pair_read}
 use Rattle.pricer.specs.Pricing.{glue_of}
-use Rattle.checker.specs.Check.{paper_of, CheckRuled, account_of, fitting_of, unless_misfit, judgement_of, ruled_of, ruling_of, Checks}
+use Rattle.checker.specs.Check.{paper_of, CheckRuled, account_of, unless_unbound, fitting_of, unless_misfit, judgement_of, ruled_of, ruling_of, Checks}
 use Rattle.rightness.specs.Rightness.{unless_wrong}
 use Rattle.completeness.specs.Complete.{binds, first_unbound}
-use Rattle.checker.specs.declared.Checked.{Checked}
-use Rattle.checker.specs.declared.Checked.TheVariants.{Accepted, JobRefused, MappingRefused, Refused, Wrong}
+use Rattle.checker.specs.declared.CheckError.TheVariants.{JobRefused, MappingRefused, Refused, Wrong}
 use Rattle.demands.specs.Mapped.{source_at, binding_at, claim_at, Bound, Complete, RightAt, AllRight, RightlyMapped, NamesUnbound, NamesWrong}
 use Rattle.demands.proofs.Parts.{part_length, part_at, rises_to, source_at_lem}
 use Rattle.demands.proofs.Firsts.{First, Passes, first_failing, first_least, bound_at, at_bound, bound_in, all_bound_none, unbound_first, none_all_bound, right_under, all_right_next, wrong_first, accepted_all_right}
@@ -54,16 +53,16 @@ of_wrong c n h = false_of (is_right c n) (λ e. h (right_of c n e))
 
 -- ---- what a ruling that names a claim leaves to the program
 
-abbrev WrongOf : Claim → ℕ → Checked → Witness → Type 0
+abbrev WrongOf : Claim → ℕ → Result ⊤ CheckError → Witness → Type 0
 WrongOf c n r v =
     (paper_of r ≡ refused_with 10 c.function (v.port ∷ v.left ∷ v.right ∷ num v.carry ∷ [])) × Differs c n v
 
-wrong_answer : (c : Claim) (n : ℕ) (r : Checked) → CheckRuled (Names c n) r → (v : Witness) × WrongOf c n r v
-wrong_answer c n Accepted h = absurd h
-wrong_answer c n (JobRefused x) h = absurd h
-wrong_answer c n (MappingRefused x) h = absurd h
-wrong_answer c n (Refused x) h = absurd h
-wrong_answer c n (Wrong v) h =
+wrong_answer : (c : Claim) (n : ℕ) (r : Result ⊤ CheckError) → CheckRuled (Names c n) r → (v : Witness) × WrongOf c n r v
+wrong_answer c n (Ok tt) h = absurd h
+wrong_answer c n (Err (JobRefused x)) h = absurd h
+wrong_answer c n (Err (MappingRefused x)) h = absurd h
+wrong_answer c n (Err (Refused x)) h = absurd h
+wrong_answer c n (Err (Wrong v)) h =
     (v, (ap (λ (x : ℕ). refused_with 10 x (v.port ∷ v.left ∷ v.right ∷ num v.carry ∷ [])) h.named, h))
 
 -- ---- a job and a mapping that are well formed
@@ -99,18 +98,15 @@ module _ (jw mw : List ℕ) (j : Job) (m : Mapping) (ej : WellFormedJob jw j) (e
   of_bound f b =
       at_bound bindings f b.0 (omega (arith, b.1.0, bindings_length)) (ap source_of (binding_at_lem b.0 b.1.0) ∙ b.1.1)
 
-  complete_none : Complete jw mw j m → first_unbound sources bindings ≡ no_function
+  complete_none : Complete jw mw j m → first_unbound sources bindings ≡ None
   complete_none h =
       all_bound_none bindings sources
       (λ i l. let g : i < j.sources = omega (arith, sources_length) in ap (binds bindings) (source_at_lem jw j i g) ∙ of_bound (source_at jw i) (h i g))
 
-  none_complete : first_unbound sources bindings ≡ no_function → Complete jw mw j m
+  none_complete : first_unbound sources bindings ≡ None → Complete jw mw j m
   none_complete e i h =
-      let least : (k : ℕ) → k < length sources → 1 ≤ source_function (get_or sources k 0) =
-      λ k l. let g : k < j.sources = omega (arith, sources_length) in
-      omega (arith, source_at_lem jw j k g, ((jobs.well_formed jw j ej).source_words k g).least) in
       bound_of (source_at jw i)
-      (ap (binds bindings) (sym (source_at_lem jw j i h)) ∙ none_all_bound bindings sources least e i (omega (arith, sources_length)))
+      (ap (binds bindings) (sym (source_at_lem jw j i h)) ∙ none_all_bound bindings sources e i (omega (arith, sources_length)))
 
   unbound_fails : (i : ℕ) → i < j.sources → (Bound mw m (source_at jw i) → ⊥) → bound_in bindings (get_or sources i 0) ≡ false
   unbound_fails i h u =
@@ -139,75 +135,75 @@ module _ (jw mw : List ℕ) (j : Job) (m : Mapping) (ej : WellFormedJob jw j) (e
 
   judged : ruling_of jw mw ≡ judgement_of t m bindings
   unfolding ruling_of
-  judged = ap (ruled_of jw mw) (sym (both_read jw mw (job_of jw) refl j ej (mapping_of mw) refl m em))
+  judged = ap (ruled_of jw mw) (pair_read jw mw j m ej em)
 
-  abbrev fit : Fit
+  abbrev fit : Result ⊤ Refusal
   fit = fit_of t m bindings
 
-  pub fitted : fit ≡ Fits → ruling_of jw mw ≡ fitting_of t m bindings
+  pub fitted : fit ≡ Ok tt → ruling_of jw mw ≡ fitting_of t m bindings
   unfolding judgement_of
-  fitted e = judged ∙ ap (λ (x : Fit). unless_misfit x (fitting_of t m bindings)) e
+  fitted e = judged ∙ ap (λ (x : Result ⊤ Refusal). unless_misfit x (fitting_of t m bindings)) e
 
   completed : Complete jw mw j m → fitting_of t m bindings ≡ unless_wrong t bindings (Gives (account_of t m bindings))
   unfolding fitting_of
-  completed c = rw (eq-eqb (first_unbound sources bindings) no_function (complete_none c)) refl
+  completed c = rw (complete_none c) refl
 
   -- ---- accepted
 
-  pub accepting : Complete jw mw j m → AllRight t mw m → glue_of j bindings ≡ m.glue → fitting_of t m bindings ≡ Gives Accepted
+  pub accepting : Complete jw mw j m → AllRight t mw m → glue_of j bindings ≡ m.glue → fitting_of t m bindings ≡ Gives (Ok tt)
   unfolding account_of
   accepting c a g =
       completed c ∙ all_right_next t _ bindings (right_passes a)
       ∙ rw (eq-eqb (glue_of j bindings) m.glue g) refl
 
-  accepted_glue : Accepted ≡ account_of t m bindings → glue_of j bindings ≡ m.glue
+  accepted_glue : Ok tt ≡ account_of t m bindings → glue_of j bindings ≡ m.glue
   unfolding account_of
   accepted_glue h =
-      either (λ x. Accepted ≡ x → glue_of j bindings ≡ m.glue) (not (eqb (glue_of j bindings) m.glue))
+      either (λ (x : Result ⊤ CheckError). Ok tt ≡ x → glue_of j bindings ≡ m.glue) (not (eqb (glue_of j bindings) m.glue))
       (λ _ u. absurd (let z : ◌≡◌ {A = ℕ} 0 1 = cc in omega arith))
       (λ b _. eqb-true (glue_of j bindings) m.glue (not-false (eqb (glue_of j bindings) m.glue) b)) h
 
-  accepted_fitting : fit ≡ Fits → CheckRuled (fitting_of t m bindings) Accepted → RightlyMapped jw mw
+  accepted_fitting : fit ≡ Ok tt → CheckRuled (fitting_of t m bindings) (Ok tt) → RightlyMapped jw mw
   unfolding fitting_of
-  accepted_fitting e h =
-      either (λ x. CheckRuled x Accepted → RightlyMapped jw mw) (not (eqb (first_unbound sources bindings) no_function))
-      (λ _ u. absurd (let z : ◌≡◌ {A = ℕ} 0 1 = cc in omega arith))
-      (λ b u. let r = accepted_all_right t (Gives (account_of t m bindings)) bindings u in
-      record {
-        job = j;
-        mapping = m;
-        fitting = record { job_well_formed = ej; mapping_well_formed = em; fits = e };
-        complete =
-            none_complete
-            (eqb-true (first_unbound sources bindings) no_function (not-false (eqb (first_unbound sources bindings) no_function) b));
-        all_right = passes_right r.0;
-        rightly_priced = accepted_glue r.1;
-      }) h
+  accepted_fitting e h = go (first_unbound sources bindings) refl h
+    where
+      go : (f : Option ℕ) → first_unbound sources bindings ≡ f
+          → CheckRuled (unless_unbound f (unless_wrong t bindings (Gives (account_of t m bindings)))) (Ok tt) → RightlyMapped jw mw
+      go (Some f) b u = absurd (let z : ◌≡◌ {A = ℕ} 0 1 = cc in omega arith)
+      go None b u =
+          let r = accepted_all_right t (Gives (account_of t m bindings)) bindings u in
+          record {
+            job = j;
+            mapping = m;
+            fitting = record { job_well_formed = ej; mapping_well_formed = em; fits = e };
+            complete = none_complete b;
+            all_right = passes_right r.0;
+            rightly_priced = accepted_glue r.1;
+          }
 
-  pub accepted_judged : CheckRuled (judgement_of t m bindings) Accepted → RightlyMapped jw mw
+  pub accepted_judged : CheckRuled (judgement_of t m bindings) (Ok tt) → RightlyMapped jw mw
   unfolding judgement_of
   accepted_judged h = go fit refl h
     where
-      go : (f : Fit) → fit ≡ f → CheckRuled (unless_misfit f (fitting_of t m bindings)) Accepted → RightlyMapped jw mw
-      go Fits e u = accepted_fitting e u
-      go (Misfit x) e u = absurd (let z : ◌≡◌ {A = ℕ} 0 1 = cc in omega arith)
+      go : (f : Result ⊤ Refusal) → fit ≡ f → CheckRuled (unless_misfit f (fitting_of t m bindings)) (Ok tt) → RightlyMapped jw mw
+      go (Ok tt) e u = accepted_fitting e u
+      go (Err x) e u = absurd (let z : ◌≡◌ {A = ℕ} 0 1 = cc in omega arith)
 
   -- ---- the first that fails is named
 
-  ruled : (x : Ruling Checked) → ruling_of jw mw ≡ x → (r : Checked) → Checks jw mw r → CheckRuled x r
-  ruled x e r h = subst (λ (y : Ruling Checked). CheckRuled y r) e h
+  ruled : (x : Ruling (Result ⊤ CheckError)) → ruling_of jw mw ≡ x → (r : Result ⊤ CheckError) → Checks jw mw r → CheckRuled x r
+  ruled x e r h = subst (λ (y : Ruling (Result ⊤ CheckError)). CheckRuled y r) e h
 
-  unbound_named : fit ≡ Fits → (at : ℕ) → First (bound_in bindings) sources at → at < j.sources
-      → (r : Checked) → Checks jw mw r → r ≡ Refused (refusal 9 (source_place (source_at jw at)))
+  unbound_named : fit ≡ Ok tt → (at : ℕ) → First (bound_in bindings) sources at → at < j.sources
+      → (r : Result ⊤ CheckError) → Checks jw mw r → r ≡ Err (Refused (refusal 9 (source_place (source_at jw at))))
   unfolding fitting_of
   unbound_named e at first within r h =
-      let f : first_unbound sources bindings ≡ source_at jw at = unbound_first bindings sources at first ∙ source_at_lem jw j at within in
-      let some : first_unbound sources bindings ≡ no_function → ⊥
-      = λ z. omega (arith, ((jobs.well_formed jw j ej).source_words at within).least) in
-      ruled (Gives (Refused (refusal 9 (source_place (source_at jw at)))))
-      (fitted e ∙ rw (ne_eqb (first_unbound sources bindings) no_function some) (ap (λ (x : ℕ). Gives (Refused (refusal 9 (source_place x)))) f)) r h
+      let f : first_unbound sources bindings ≡ Some (source_at jw at)
+      = unbound_first bindings sources at first ∙ ap Some (source_at_lem jw j at within) in
+      ruled (Gives (Err (Refused (refusal 9 (source_place (source_at jw at))))))
+      (fitted e ∙ ap (λ (x : Option ℕ). unless_unbound x (unless_wrong t bindings (Gives (account_of t m bindings)))) f) r h
 
-  names-unbound : fit ≡ Fits → (at : ℕ) → First (bound_in bindings) sources at → (r : Checked) → Checks jw mw r → NamesUnbound jw mw j m r
+  names-unbound : fit ≡ Ok tt → (at : ℕ) → First (bound_in bindings) sources at → (r : Result ⊤ CheckError) → Checks jw mw r → NamesUnbound jw mw j m r
   names-unbound e at first r h =
       let within : at < j.sources = omega (arith, first.within, sources_length) in
       record {
@@ -223,14 +219,14 @@ module _ (jw mw : List ℕ) (j : Job) (m : Mapping) (ej : WellFormedJob jw j) (e
         answer = ap paper_of (unbound_named e at first within r h);
       }
 
-  pub lowest_unbound : fit ≡ Fits → (i : ℕ) → i < j.sources → (Bound mw m (source_at jw i) → ⊥)
-      → (r : Checked) → Checks jw mw r → NamesUnbound jw mw j m r
+  pub lowest_unbound : fit ≡ Ok tt → (i : ℕ) → i < j.sources → (Bound mw m (source_at jw i) → ⊥)
+      → (r : Result ⊤ CheckError) → Checks jw mw r → NamesUnbound jw mw j m r
   lowest_unbound e i h u r c =
       let found = first_failing (bound_in bindings) sources i (omega (arith, sources_length)) (unbound_fails i h u) in
       names-unbound e found.0 found.1 r c
 
-  names-wrong : fit ≡ Fits → Complete jw mw j m → (at : ℕ) → First (right_under t) bindings at
-      → (r : Checked) → Checks jw mw r → NamesWrong t mw m r
+  names-wrong : fit ≡ Ok tt → Complete jw mw j m → (at : ℕ) → First (right_under t) bindings at
+      → (r : Result ⊤ CheckError) → Checks jw mw r → NamesWrong t mw m r
   names-wrong e c at first r h =
       let within : at < m.bindings = omega (arith, first.within, bindings_length) in
       let named = fitted e ∙ completed c ∙ wrong_first t (Gives (account_of t m bindings)) bindings at first
@@ -251,8 +247,8 @@ module _ (jw mw : List ℕ) (j : Job) (m : Mapping) (ej : WellFormedJob jw j) (e
         differs = told.1.1;
       }
 
-  pub lowest_wrong : fit ≡ Fits → Complete jw mw j m → (k : ℕ) → k < m.bindings → (RightAt t mw k → ⊥)
-      → (r : Checked) → Checks jw mw r → NamesWrong t mw m r
+  pub lowest_wrong : fit ≡ Ok tt → Complete jw mw j m → (k : ℕ) → k < m.bindings → (RightAt t mw k → ⊥)
+      → (r : Result ⊤ CheckError) → Checks jw mw r → NamesWrong t mw m r
   lowest_wrong e c k h u r a =
       let found = first_failing (right_under t) bindings k (omega (arith, bindings_length)) (wrong_fails k h u) in
       names-wrong e c found.0 found.1 r a

@@ -1,50 +1,68 @@
 -- What document 01's choice has to be: each chosen rule is a rule of the job, usable, and none gives less at its turn, none earlier as
 -- little; and a choice is made exactly where every source has a usable rule.
-use mathlib.Core.Path.{◌≡◌, refl, sym, ap, ◌∙◌}
+use mathlib.Core.Path.{◌≡◌, refl, sym, ap, subst, ◌∙◌}
 use mathlib.Core.Bool.{Bool, true, false, false≢true, true≢false}
 use mathlib.Core.List.{List, [], ◌∷◌, ◌++◌}
 use Prim.Native.Nat.{ℕ, zero, suc, ◌+◌, ◌≤◌, ◌<◌}
 use native.Mathlib.Omega.{arith}
-use lib.Dec.{ltb}
 use lib.ListN.{length, take, get_or, length-append}
 use lib.Seq.{take-take, take-length, take-append_seam, get_or-take, get_or-append_seam}
 use native.Mathlib.Nat.{add-zero}
 use borrow.Author.Tests.{ltb-true, ltb-false}
-use Rattle.std.specs.Prelude.{if◌then◌else◌}
+use Rattle.std.specs.Prelude.{Option, Some, None, Result, Ok, Err}
 use Rattle.words.specs.Field.{source_function}
 use Rattle.words.specs.Paper.{source_place}
-use Rattle.words.proofs.Choices.{either}
 use Rattle.table.specs.Parts.{Terms}
-use Rattle.best.specs.Best.{serves, no_rule, beats, better, best_of}
-use Rattle.choice.specs.Choose.{Mapped, Unmappable, with_rule, choose}
+use Rattle.best.specs.Best.{serves, beats, better, best_of}
+use Rattle.choice.specs.Choose.{with_rule, choose, bind_best}
 use Rattle.best.specs.declared.Best.{Best}
 use Rattle.demands.specs.Choice.{Served, Least}
 
 -- ---- one rule
 
-beaten : (b : Bool) (total x : ℕ) → (if b then ltb x total else true) ≡ true → b ≡ true → x < total
-beaten true total x h e = ltb-true x total h
-beaten false total x h e = absurd (false≢true e)
+-- the best so far is there, and makes at most so much
+abbrev AtMost : Option Best → ℕ → Type 0
+AtMost None x = ⊥
+AtMost (Some best) x = best.total ≤ x
 
-unbeaten : (b : Bool) (total x : ℕ) → (if b then ltb x total else true) ≡ false → (b ≡ true) × (total ≤ x)
-unbeaten true total x h = (refl, ltb-false x total h)
-unbeaten false total x h = absurd (true≢false h)
+-- so much is less than the best so far makes, if it is there
+abbrev Beats : ℕ → Option Best → Type 0
+Beats x None = Unit {0}
+Beats x (Some best) = x < best.total
+
+beaten : (best : Option Best) (x : ℕ) → beats best x ≡ true → Beats x best
+unfolding beats
+beaten None x h = tt
+beaten (Some best) x h = ltb-true x best.total h
+
+unbeaten : (best : Option Best) (x : ℕ) → beats best x ≡ false → AtMost best x
+unfolding beats
+unbeaten None x h = absurd (true≢false h)
+unbeaten (Some best) x h = ltb-false x best.total h
+
+beats_too : (best : Option Best) (x y : ℕ) → x < y → Beats y best → Beats x best
+beats_too None x y h k = tt
+beats_too (Some best) x y h k = omega arith
+
+between : (best : Option Best) (x y : ℕ) → Beats x best → AtMost best y → x < y
+between None x y h k = absurd k
+between (Some best) x y h k = omega arith
 
 module _ (g : ℕ → ℕ) (t : Terms) (f : ℕ) where
   Serves : ℕ → Type 0
   Serves w = serves t f w ≡ true
 
   -- a rule is taken, or the best so far stays and is at most as dear
-  data Taken (best : Best) (w : ℕ) : Type 0 where
-    takes : Serves w → (best.found ≡ true → g w < best.total) → better g t f best w ≡ record { found = true; word = w; total = g w } → Taken best w
-    leaves : (Serves w → (best.found ≡ true) × (best.total ≤ g w)) → better g t f best w ≡ best → Taken best w
+  data Taken (best : Option Best) (w : ℕ) : Type 0 where
+    takes : Serves w → Beats (g w) best → better g t f best w ≡ Some (record { word = w; total = g w }) → Taken best w
+    leaves : (Serves w → AtMost best (g w)) → better g t f best w ≡ best → Taken best w
 
-  when_served : (best : Best) (w : ℕ) → Serves w → (b : Bool) → beats best (g w) ≡ b → Taken best w
-  unfolding better beats Serves
-  when_served best w e true u = takes e (beaten best.found best.total (g w) u) (rw e (rw u refl))
-  when_served best w e false u = leaves (λ _. unbeaten best.found best.total (g w) u) (rw e (rw u refl))
+  when_served : (best : Option Best) (w : ℕ) → Serves w → (b : Bool) → beats best (g w) ≡ b → Taken best w
+  unfolding better Serves
+  when_served best w e true u = takes e (beaten best (g w) u) (rw e (rw u refl))
+  when_served best w e false u = leaves (λ _. unbeaten best (g w) u) (rw e (rw u refl))
 
-  taken : (best : Best) (w : ℕ) (b : Bool) → serves t f w ≡ b → Taken best w
+  taken : (best : Option Best) (w : ℕ) (b : Bool) → serves t f w ≡ b → Taken best w
   unfolding better Serves
   taken best w true e = when_served best w e (beats best (g w)) refl
   taken best w false e = leaves (λ h. absurd (false≢true (sym e ∙ h))) (rw e refl)
@@ -52,11 +70,9 @@ module _ (g : ℕ → ℕ) (t : Terms) (f : ℕ) where
   -- ---- all rules
 
   -- the best after some rules: the one before them, which none of them beats, or the least of them, which beats it
-  data Outcome (best : Best) (ws : List ℕ) (r : Best) : Type 0 where
-    stays : r ≡ best → ((i : ℕ) → i < length ws → Serves (get_or ws i 0) → (best.found ≡ true) × (best.total ≤ g (get_or ws i 0)))
-        → Outcome best ws r
-    moves : r.found ≡ true → r.total ≡ g r.word → Least g t f ws r.word → (best.found ≡ true → r.total < best.total)
-        → Outcome best ws r
+  data Outcome (best : Option Best) (ws : List ℕ) (r : Option Best) : Type 0 where
+    stays : r ≡ best → ((i : ℕ) → i < length ws → Serves (get_or ws i 0) → AtMost best (g (get_or ws i 0))) → Outcome best ws r
+    moves : (b : Best) → r ≡ Some b → b.total ≡ g b.word → Least g t f ws b.word → Beats b.total best → Outcome best ws r
 
   -- at the first index or a later one
   by_index : (P : ℕ → Type 0) → P 0 → ((i : ℕ) → P (suc i)) → (i : ℕ) → P i
@@ -95,55 +111,48 @@ module _ (g : ℕ → ℕ) (t : Terms) (f : ℕ) where
         none_earlier = λ i b u. absurd (omega arith);
       }
 
-  after-taking : (best : Best) (w : ℕ) (ws : List ℕ) (r : Best) → Serves w → (best.found ≡ true → g w < best.total)
-      → Outcome (record { found = true; word = w; total = g w }) ws r → Outcome best (w ∷ ws) r
-  after-taking best w ws r s b (stays e all) =
-      let ef : r.found ≡ true = ap (λ (x : Best). x.found) e in
-      let ew : r.word ≡ w = ap (λ (x : Best). x.word) e in
-      let et : r.total ≡ g w = ap (λ (x : Best). x.total) e in
-      moves ef (et ∙ ap g (sym ew))
-      (rw ew (earlier w ws s (λ i h u. (all i h u).1)))
-      (λ h. omega (arith, b h))
-  after-taking best w ws r s b (moves ef et l h) =
-      let k = h refl in
-      moves ef et (later w ws r.word l (λ _. omega arith)) (λ u. omega (arith, b u))
+  after-taking : (best : Option Best) (w : ℕ) (ws : List ℕ) (r : Option Best) → Serves w → Beats (g w) best
+      → Outcome (Some (record { word = w; total = g w })) ws r → Outcome best (w ∷ ws) r
+  after-taking best w ws r s b (stays e all) = moves (record { word = w; total = g w }) e refl (earlier w ws s all) b
+  after-taking best w ws r s b (moves x e et l k) =
+      moves x e et (later w ws x.word l (λ _. omega arith)) (beats_too best x.total (g w) k b)
 
-  after-leaving : (best : Best) (w : ℕ) (ws : List ℕ) (r : Best) → (Serves w → (best.found ≡ true) × (best.total ≤ g w))
+  after-leaving : (best : Option Best) (w : ℕ) (ws : List ℕ) (r : Option Best) → (Serves w → AtMost best (g w))
       → Outcome best ws r → Outcome best (w ∷ ws) r
   unfolding Serves
   after-leaving best w ws r b (stays e all) =
       stays e
-      (by_index (λ i. i < suc (length ws) → serves t f (get_or (w ∷ ws) i 0) ≡ true → (best.found ≡ true) × (best.total ≤ g (get_or (w ∷ ws) i 0)))
+      (by_index (λ i. i < suc (length ws) → serves t f (get_or (w ∷ ws) i 0) ≡ true → AtMost best (g (get_or (w ∷ ws) i 0)))
       (λ _ s. b s) (λ i h s. all i (omega arith) s))
-  after-leaving best w ws r b (moves ef et l h) =
-      moves ef et (later w ws r.word l (λ s. let z = b s in omega (arith, h z.0, z.1))) h
+  after-leaving best w ws r b (moves x e et l k) =
+      moves x e et (later w ws x.word l (λ s. let z = between best x.total (g w) k (b s) in omega arith)) k
 
-  one_more : (best : Best) (w : ℕ) (ws : List ℕ) → ((b : Best) → Outcome b ws (best_of g t f b ws)) → Taken best w
+  one_more : (best : Option Best) (w : ℕ) (ws : List ℕ) → ((b : Option Best) → Outcome b ws (best_of g t f b ws)) → Taken best w
       → Outcome best (w ∷ ws) (best_of g t f (better g t f best w) ws)
-  one_more best w ws rest (takes s b e) = after-taking best w ws _ s b (rw e (rest (record { found = true; word = w; total = g w })))
+  one_more best w ws rest (takes s b e) = after-taking best w ws _ s b (rw e (rest (Some (record { word = w; total = g w }))))
   one_more best w ws rest (leaves b e) = after-leaving best w ws _ b (rw e (rest best))
 
-  outcome : (ws : List ℕ) (best : Best) → Outcome best ws (best_of g t f best ws)
+  outcome : (ws : List ℕ) (best : Option Best) → Outcome best ws (best_of g t f best ws)
   unfolding best_of
   outcome [] best = stays refl (λ i h s. absurd (omega arith))
   outcome (w ∷ ws) best = one_more best w ws (outcome ws) (taken best w (serves t f w) refl)
 
   -- the best rule of all is the least
-  pub best_least : (rules : List ℕ) → (best_of g t f no_rule rules).found ≡ true → Least g t f rules (best_of g t f no_rule rules).word
-  best_least rules h = go (best_of g t f no_rule rules) h (outcome rules no_rule)
+  pub best_least : (rules : List ℕ) (b : Best) → best_of g t f None rules ≡ Some b → Least g t f rules b.word
+  best_least rules b h = go (best_of g t f None rules) h (outcome rules None)
     where
-      go : (r : Best) → r.found ≡ true → Outcome no_rule rules r → Least g t f rules r.word
-      go r e (stays u all) = absurd (false≢true (ap (λ (x : Best). x.found) (sym u) ∙ e))
-      go r e (moves ef et l b) = l
+      go : (r : Option Best) → r ≡ Some b → Outcome None rules r → Least g t f rules b.word
+      go r e (stays u all) = absurd (let z : ◌≡◌ {A = ℕ} 0 1 = cc in omega arith)
+      go r e (moves x u et l k) = let q : x ≡ b = cc in subst (λ (y : Best). Least g t f rules y.word) q l
 
   -- one is found where some rule is usable
-  pub served_found : (rules : List ℕ) → Served t f rules → (best_of g t f no_rule rules).found ≡ true
+  pub served_found : (rules : List ℕ) → Served t f rules → (b : Best) × (best_of g t f None rules ≡ Some b)
   unfolding Serves
-  served_found rules s = go (best_of g t f no_rule rules) (outcome rules no_rule)
+  served_found rules s = go (best_of g t f None rules) (outcome rules None)
     where
-      go : (r : Best) → Outcome no_rule rules r → r.found ≡ true
-      go r (stays u all) = absurd (false≢true (all s.index s.within s.is_served).0)
-      go r (moves ef et l b) = ef
+      go : (r : Option Best) → Outcome None rules r → (b : Best) × (r ≡ Some b)
+      go r (stays u all) = absurd (all s.index s.within s.is_served)
+      go r (moves x u et l k) = (x, u)
 
 -- ---- all sources
 
@@ -155,7 +164,7 @@ module _ (t : Terms) (rules : List ℕ) where
     pub least : (k : ℕ) → k < length sources
         → Least (with_rule t (take (length bound + k) all)) t (source_function (get_or sources k 0)) rules (get_or all (length bound + k) 0)
 
-  apart : {Q : Type 0} (place : ℕ) (all : List ℕ) → Unmappable place ≡ Mapped all → Q
+  apart : {Q : Type 0} (place : ℕ) (all : List ℕ) → Err place ≡ Ok all → Q
   apart place all e = let z : ◌≡◌ {A = ℕ} 0 1 = cc in absurd (omega arith)
 
   -- the source that comes next has the least rule, and so have those after it
@@ -195,27 +204,30 @@ module _ (t : Terms) (rules : List ℕ) where
         by_turn q r zero h = q
         by_turn q r (suc k) h = r k h
 
-  pub mapped_chosen : (sources bound all : List ℕ) → choose t rules bound sources ≡ Mapped all → Chosen bound sources all
+  pub mapped_chosen : (sources bound all : List ℕ) → choose t rules bound sources ≡ Ok all → Chosen bound sources all
   unfolding choose
   mapped_chosen [] bound all e =
       let u : bound ≡ all = cc in
       record { size = omega (arith, ap length u); first = rw u (take-length all); least = λ k h. absurd (omega arith) }
   mapped_chosen (s ∷ ss) bound all e =
-      let b = best_of (with_rule t bound) t (source_function s) no_rule rules in
-      either (λ x. x ≡ Mapped all → Chosen bound (s ∷ ss) all) b.found
-      (λ h u. chosen_more bound s ss all b.word (best_least (with_rule t bound) t (source_function s) rules h)
-      (mapped_chosen ss (bound ++ b.word ∷ []) all u))
-      (λ _ u. apart (source_place (source_function s)) all u) e
+      by_best (best_of (with_rule t bound) t (source_function s) None rules) refl (λ w. mapped_chosen ss (bound ++ w ∷ []) all) e
+    where
+      by_best : (b : Option Best) → best_of (with_rule t bound) t (source_function s) None rules ≡ b
+          → ((w : ℕ) → choose t rules (bound ++ w ∷ []) ss ≡ Ok all → Chosen (bound ++ w ∷ []) ss all)
+          → bind_best b (source_function s) (λ w. choose t rules (bound ++ w ∷ []) ss) ≡ Ok all → Chosen bound (s ∷ ss) all
+      by_best (Some b) u rest v =
+          chosen_more bound s ss all b.word (best_least (with_rule t bound) t (source_function s) rules b u) (rest b.word v)
+      by_best None u rest v = apart (source_place (source_function s)) all v
 
   -- "A function is unmappable only if no usable rule for it is in the job": where every source has one, a choice is made
   pub all_served : (sources bound : List ℕ) → ((k : ℕ) → k < length sources → Served t (source_function (get_or sources k 0)) rules)
-      → (all : List ℕ) × (choose t rules bound sources ≡ Mapped all)
+      → (all : List ℕ) × (choose t rules bound sources ≡ Ok all)
   unfolding choose
   all_served [] bound h = (bound, refl)
   all_served (s ∷ ss) bound h =
-      let b = best_of (with_rule t bound) t (source_function s) no_rule rules in
-      let r = all_served ss (bound ++ b.word ∷ []) (λ k l. h (suc k) (omega arith)) in
-      (r.0, rw (served_found (with_rule t bound) t (source_function s) rules (h 0 (omega arith))) r.1)
+      let q = served_found (with_rule t bound) t (source_function s) rules (h 0 (omega arith)) in
+      let r = all_served ss (bound ++ q.0.word ∷ []) (λ k l. h (suc k) (omega arith)) in
+      (r.0, rw q.1 r.1)
 
   -- and where a choice is made every source has one
   pub chosen_served : (sources all : List ℕ) → Chosen [] sources all → (k : ℕ) → k < length sources
@@ -232,24 +244,26 @@ module _ (t : Terms) (rules : List ℕ) where
     pub unserved : Served t (source_function (get_or sources index 0)) rules → ⊥
     pub earlier_served : (i : ℕ) → i < index → Served t (source_function (get_or sources i 0)) rules
 
-  mapped_apart : {Q : Type 0} (all : List ℕ) (place : ℕ) → Mapped all ≡ Unmappable place → Q
+  mapped_apart : {Q : Type 0} (all : List ℕ) (place : ℕ) → Ok all ≡ Err place → Q
   mapped_apart all place e = let z : ◌≡◌ {A = ℕ} 0 1 = cc in absurd (omega arith)
 
-  here_unserved : (s : ℕ) (ss bound : List ℕ) (place : ℕ) → (best_of (with_rule t bound) t (source_function s) no_rule rules).found ≡ false
-      → Unmappable (source_place (source_function s)) ≡ Unmappable place → Unserved (s ∷ ss) place
+  here_unserved : (s : ℕ) (ss bound : List ℕ) (place : ℕ) → best_of (with_rule t bound) t (source_function s) None rules ≡ None
+      → ◌≡◌ {A = Result (List ℕ) ℕ} (Err (source_place (source_function s))) (Err place) → Unserved (s ∷ ss) place
   here_unserved s ss bound place h u =
       record {
         index = 0;
         within = omega arith;
         is_place = cc;
-        unserved = λ v. true≢false (sym (served_found (with_rule t bound) t (source_function s) rules v) ∙ h);
+        unserved =
+            λ v. let q = served_found (with_rule t bound) t (source_function s) rules v in
+            let n : ◌≡◌ {A = Option Best} None (Some q.0) = sym h ∙ q.1 in let z : ◌≡◌ {A = ℕ} 0 1 = cc in omega arith;
         earlier_served = λ i l. absurd (omega arith);
       }
 
-  later_unserved : (s : ℕ) (ss bound : List ℕ) (place : ℕ) → (best_of (with_rule t bound) t (source_function s) no_rule rules).found ≡ true
+  later_unserved : (s : ℕ) (ss bound : List ℕ) (place : ℕ) (b : Best) → best_of (with_rule t bound) t (source_function s) None rules ≡ Some b
       → Unserved ss place → Unserved (s ∷ ss) place
-  later_unserved s ss bound place h u =
-      let l = best_least (with_rule t bound) t (source_function s) rules h in
+  later_unserved s ss bound place b h u =
+      let l = best_least (with_rule t bound) t (source_function s) rules b h in
       record {
         index = suc u.index;
         within = omega (arith, u.within);
@@ -266,11 +280,15 @@ module _ (t : Terms) (rules : List ℕ) where
       first_or_later q r zero b = q
       first_or_later q r (suc i) b = r i b
 
-  pub unmappable_unserved : (sources bound : List ℕ) (place : ℕ) → choose t rules bound sources ≡ Unmappable place → Unserved sources place
+  pub unmappable_unserved : (sources bound : List ℕ) (place : ℕ) → choose t rules bound sources ≡ Err place → Unserved sources place
   unfolding choose
   unmappable_unserved [] bound place e = mapped_apart bound place e
   unmappable_unserved (s ∷ ss) bound place e =
-      let b = best_of (with_rule t bound) t (source_function s) no_rule rules in
-      either (λ x. x ≡ Unmappable place → Unserved (s ∷ ss) place) b.found
-      (λ h u. later_unserved s ss bound place h (unmappable_unserved ss (bound ++ b.word ∷ []) place u))
-      (λ h u. here_unserved s ss bound place h u) e
+      by_best (best_of (with_rule t bound) t (source_function s) None rules) refl
+      (λ w. unmappable_unserved ss (bound ++ w ∷ []) place) e
+    where
+      by_best : (b : Option Best) → best_of (with_rule t bound) t (source_function s) None rules ≡ b
+          → ((w : ℕ) → choose t rules (bound ++ w ∷ []) ss ≡ Err place → Unserved ss place)
+          → bind_best b (source_function s) (λ w. choose t rules (bound ++ w ∷ []) ss) ≡ Err place → Unserved (s ∷ ss) place
+      by_best (Some b) u rest v = later_unserved s ss bound place b u (rest b.word v)
+      by_best None u rest v = here_unserved s ss bound place u v

@@ -19,7 +19,7 @@ use Rattle.table.specs.Parts.{sources_of, targets_of, terms_of}
 use Rattle.table.specs.Table.{has_target}
 use Rattle.claims.specs.Claim.{claim_in}
 use Rattle.best.specs.Best.{serves, usable}
-use Rattle.choice.specs.Choose.{Mapped}
+use Rattle.std.specs.Prelude.{Ok}
 use Rattle.mapper.specs.Mapping.{rules_for, choice_of}
 use Rattle.mapper.proofs.Answering.{sources_length}
 use Rattle.demands.specs.Mapped.{source_at}
@@ -29,7 +29,7 @@ use Rattle.demands.proofs.Rules.{each_rule}
 use Rattle.demands.proofs.Choice.{Chosen, mapped_chosen}
 use Rattle.demands.proofs.Written.{Bindable}
 
-module _ (ws : List ℕ) (job : Job) (e : WellFormedJob ws job) (bound : List ℕ) (eb : choice_of ws job ≡ Mapped bound) where
+module _ (ws : List ℕ) (job : Job) (e : WellFormedJob ws job) (bound : List ℕ) (eb : choice_of ws job ≡ Ok bound) where
   chosen : Chosen (terms_of ws job) (rules_for ws job) [] (sources_of ws job) bound
   chosen = mapped_chosen (terms_of ws job) (rules_for ws job) (sources_of ws job) [] bound eb
 

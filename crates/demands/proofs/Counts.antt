@@ -9,8 +9,9 @@ use Prim.Native.Nat.{ℕ}
 use Rattle.words.specs.Paper.{accepted}
 use Rattle.sequence.specs.Limits.{most_sources}
 use Rattle.reader.specs.Job.{job_of}
-use Rattle.reader.specs.declared.JobRead.{JobRead}
-use Rattle.reader.specs.declared.JobRead.TheVariants as read
+use Rattle.std.specs.Prelude.{Result, Ok, Err}
+use Rattle.reader.specs.declared.Job.{Job}
+use Rattle.words.specs.declared.Refusal.{Refusal}
 use Rattle.glue.specs.Glue.{glue}
 use Rattle.soundness.specs.Sound.{glue_on}
 use Rattle.soundness.proofs.Soundness.{sound_holds}
@@ -29,9 +30,9 @@ use Rattle.demands.proofs.Releasing.{Release, Released, Kept, release}
 abbrev CountIsTrue : Bench → Type 0
 CountIsTrue b = b.glue ≡ glue_on b.tables b.bound
 
-opened_true : (ws : List ℕ) (r : JobRead) → CountIsTrue (open_for ws r).bench
-opened_true ws (read.Refused r) = sym (zeros-count tables_of_zeros most_sources)
-opened_true ws (read.Accepted job) = sym (zeros-count (tables_in ws job) most_sources)
+opened_true : (ws : List ℕ) (r : Result Job Refusal) → CountIsTrue (open_for ws r).bench
+opened_true ws (Err r) = sym (zeros-count tables_of_zeros most_sources)
+opened_true ws (Ok job) = sym (zeros-count (tables_in ws job) most_sources)
 
 bound_true : (b : Bench) (w : ℕ) (r : After) → CountIsTrue b → Outcome b w r → CountIsTrue r.bench
 bound_true b w r t (Bound _ e) = subst (λ (x : After). CountIsTrue x.bench) (sym e) refl

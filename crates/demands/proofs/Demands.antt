@@ -13,7 +13,9 @@ use Rattle.binding.specs.declared.Claim.{Claim}
 use Rattle.verdict.specs.Verdicts.{Says, verdict_paper, Ruling, Judged, judgement_paper}
 use Rattle.verdict.specs.declared.Verdict.{Verdict}
 use Rattle.verdict.specs.declared.Verdict.TheVariants.{Right as IsRight, Wrong}
-use Rattle.verdict.specs.declared.Judgement.{Judgement}
+use Rattle.std.specs.Prelude.{Result, ⊤, Ok}
+use Rattle.checker.specs.declared.CheckError.{CheckError}
+use Rattle.words.specs.declared.Refusal.{Refusal}
 use Rattle.verdict.proofs.Verdicting.{not_right}
 use Rattle.sequence.specs.Limits.{most_sources}
 use Rattle.reader.specs.Job.{WellFormedJob}
@@ -22,13 +24,11 @@ use Rattle.reader.specs.declared.Mapping.{Mapping}
 use Rattle.table.specs.Parts.{sources_of, terms_of}
 use Rattle.pricer.specs.Pricing.{glue_of}
 use Rattle.writer.specs.Write.{words_needed}
-use Rattle.choice.specs.Choose.{Mapped}
 use Rattle.mapper.specs.Mapping.{rules_for, choice_of, chosen_words, answer_of, lent_after_map}
 use Rattle.mapper.specs.Mapping as mapper
 use Rattle.mapper.proofs.Answering.{sources_length}
 use Rattle.checker.specs.Check.{Checks}
 use Rattle.checker.specs.Check as checker
-use Rattle.checker.specs.declared.Checked.{Checked}
 use Rattle.soundness.specs.Sound.{table_words}
 use Rattle.opening.specs.Opening.{table_of}
 use Rattle.bench.specs.Calls.{sound_bench, holding, opened, open_of, unbound_on, mapping_on, finish_of}
@@ -65,18 +65,18 @@ accepts_exactly_the_right c n (Wrong x) says = (
 )
 
 -- `judge` accepts exactly the right recipes, whatever word and width are handed in
-pub judge_accepts-exactly_the_right : (w n : ℕ) (j : Judgement) → Judged w n j → (judgement_paper j ≡ accepted []) ↔ RightRecipe w n
+pub judge_accepts-exactly_the_right : (w n : ℕ) (j : Result Verdict Refusal) → Judged w n j → (judgement_paper j ≡ accepted []) ↔ RightRecipe w n
 judge_accepts-exactly_the_right w n j answer = (judged_right w n j answer, right_judged w n j answer)
 
 -- ---- the checker: "A mapping is accepted exactly when job and mapping are well formed, it fits, is complete and rightly priced, and
 -- every binding equals its source function on every port, for all operands and both carries, at the job's width."
-pub accepts_exactly_the_rightly_mapped : (jw mw : List ℕ) (r : Checked) → Checks jw mw r
+pub accepts_exactly_the_rightly_mapped : (jw mw : List ℕ) (r : Result ⊤ CheckError) → Checks jw mw r
     → (checker.paper_of r ≡ accepted []) ↔ RightlyMapped jw mw
 accepts_exactly_the_rightly_mapped jw mw r answer = accepted_exactly jw mw r answer
 
 -- "If well formed, fitting and complete but some binding differs somewhere, it is refused whatever its price, naming the lowest such
 -- function, operands and carry where it differs, and the lowest port differing there."
-pub names-the_lowest_wrong : (jw mw : List ℕ) (r : Checked) → Checks jw mw r → (job : Job) (m : Mapping) → Fitting jw mw job m
+pub names-the_lowest_wrong : (jw mw : List ℕ) (r : Result ⊤ CheckError) → Checks jw mw r → (job : Job) (m : Mapping) → Fitting jw mw job m
     → Complete jw mw job m → (k : ℕ) → k < m.bindings → (RightAt (terms_of jw job) mw k → ⊥) → NamesWrong (terms_of jw job) mw m r
 names-the_lowest_wrong jw mw r answer job m fits complete k h wrong =
     wrong_whatever_the_price jw mw r answer job m fits complete k h wrong
@@ -114,7 +114,7 @@ module _ (ws lent : List ℕ) where
     usable-rules = chosen_bindable ws m.job m.well_formed m.bound m.choice
 
     -- "the checker accepts it"
-    pub accepted_by_the_checker : (r : Checked) → Checks ws (chosen_words m.job m.bound) r → checker.paper_of r ≡ accepted []
+    pub accepted_by_the_checker : (r : Result ⊤ CheckError) → Checks ws (chosen_words m.job m.bound) r → checker.paper_of r ≡ accepted []
     accepted_by_the_checker r answer =
         (accepted_exactly ws (chosen_words m.job m.bound) r answer).1
         (rightly_mapped ws m.job m.well_formed m.bound usable-rules)
@@ -141,7 +141,7 @@ module _ (ws : List ℕ) (job : Job) (e : WellFormedJob ws job) where
       }
 
   -- binding the mapper's choice in any order and finishing writes what the mapper writes:
-  module _ (bound : List ℕ) (choice : choice_of ws job ≡ Mapped bound) where
+  module _ (bound : List ℕ) (choice : choice_of ws job ≡ Ok bound) where
     -- a chosen rule can be bound as long as its source is not,
     pub choice_can_be_bound : (b : Bench) → BenchOf ws job b → (k : ℕ) → k < length bound → get_or b.bound k 0 ≡ 0
         → (r : After) → bench.Binds b (get_or bound k 0) r → bench.paper_of r.answer ≡ accepted []

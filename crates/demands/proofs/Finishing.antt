@@ -8,7 +8,7 @@ use native.Mathlib.Omega.{arith}
 use lib.Dec.{eqb, ltb}
 use lib.ListN.{length, get_or, get_or-append}
 use borrow.Author.Tests.{eq-eqb, eqb-true, ltb-true}
-use Rattle.std.specs.Prelude.{if◌then◌else◌}
+use Rattle.std.specs.Prelude.{if◌then◌else◌, Result, Ok, Err}
 use Rattle.words.specs.Paper.{refusal}
 use Rattle.sequence.specs.Limits.{most_sources}
 use Rattle.reader.specs.Job.{WellFormedJob}
@@ -16,10 +16,8 @@ use Rattle.reader.specs.declared.Job.{Job}
 use Rattle.wellformed.proofs.JobWords.{well_formed}
 use Rattle.pricer.specs.Pricing.{glue_of}
 use Rattle.writer.specs.Write.{words_needed, written_of, lent_after}
-use Rattle.writer.specs.declared.Written.{Written}
-use Rattle.writer.specs.declared.Written.TheVariants.{Words, Refused as TooFew}
+use Rattle.words.specs.declared.Refusal.{Refusal}
 use Rattle.writer.proofs.Writing.{mapping_length, untouched}
-use Rattle.choice.specs.Choose.{Mapped}
 use Rattle.mapper.specs.Mapping.{choice_of, chosen_words, answer_of}
 use Rattle.mapper.specs.Mapping as mapper
 use Rattle.soundness.specs.Sound.{sources_on, glue_on}
@@ -53,7 +51,7 @@ module _ (ws : List ℕ) (job : Job) (e : WellFormedJob ws job) (b : Bench) (o :
 
 -- ---- the bench that holds the mapper's choice
 
-module _ (ws : List ℕ) (job : Job) (e : WellFormedJob ws job) (bound : List ℕ) (eb : choice_of ws job ≡ Mapped bound)
+module _ (ws : List ℕ) (job : Job) (e : WellFormedJob ws job) (bound : List ℕ) (eb : choice_of ws job ≡ Ok bound)
     (o : BenchOf ws job (holding (opened ws job) (table_of most_sources bound))) where
   abbrev chosen : Bench
   chosen = holding (opened ws job) (table_of most_sources bound)
@@ -82,9 +80,9 @@ module _ (ws : List ℕ) (job : Job) (e : WellFormedJob ws job) (bound : List �
   unfolding glue_on
   same_count = ap (glue_of job) held
 
-  same_paper : (r : Written) → paper_of (finish_written r) ≡ mapper.paper_of (mapper.map_written r)
-  same_paper (Words n) = refl
-  same_paper (TooFew r) = refl
+  same_paper : (r : Result ℕ Refusal) → paper_of (finish_written r) ≡ mapper.paper_of r
+  same_paper (Ok n) = refl
+  same_paper (Err r) = refl
 
   pub same_answer : (lent : List ℕ) → paper_of (finish_of chosen lent).answer ≡ mapper.paper_of (answer_of ws lent)
   unfolding finish_of answer_of
@@ -108,7 +106,7 @@ module _ (b : Bench) (h : Shaped b) (lent : List ℕ) where
   refused-lent e = by_soundness (sound_bench b) refl (eqb (unbound_on b) 0) refl e
     where
       too_few : sound_bench b ≡ true → unbound_on b ≡ 0 → (c : Bool) → ltb (length lent) (words_needed b.tables.nsources) ≡ c
-          → call_accepts (finish_written (if c then TooFew (refusal 23 (words_needed b.tables.nsources)) else Words (words_needed b.tables.nsources)))
+          → call_accepts (finish_written (if c then Err (refusal 23 (words_needed b.tables.nsources)) else Ok (words_needed b.tables.nsources)))
           ≡ false
           → lent_after (mapping_on b) lent ≡ lent
       too_few s u true z e =

@@ -5,22 +5,21 @@ use mathlib.Core.List.{List, [], ◌∷◌}
 use Prim.Native.Nat.{ℕ, zero, suc, ◌≤◌, ◌<◌}
 use native.Mathlib.Decide.{dec_lt}
 use native.Mathlib.Omega.{arith}
-use lib.Dec.{eqb}
 use lib.ListN.{length, get_or}
 use borrow.Author.Tests.{eq-eqb, eqb-true, not-false}
+use Rattle.std.specs.Prelude.{Some, None, Result, Ok, ⊤}
 use Rattle.words.specs.Field.{source_function}
 use Rattle.words.proofs.Choices.{either}
-use Rattle.alu.specs.Function.{no_function}
 use Rattle.recipe.specs.Fields.{source_of}
 use Rattle.binding.specs.Right.{is_right}
 use Rattle.verdict.specs.Verdicts.{Ruling, Names}
 use Rattle.table.specs.Parts.{Terms}
+use Rattle.table.proofs.Entries.{found_at, at_found}
 use Rattle.claims.specs.Claim.{claim_in}
 use Rattle.checker.specs.Check.{CheckRuled}
 use Rattle.rightness.specs.Rightness.{unless_wrong}
 use Rattle.completeness.specs.Complete.{binds, first_unbound}
-use Rattle.checker.specs.declared.Checked.{Checked}
-use Rattle.checker.specs.declared.Checked.TheVariants.{Accepted}
+use Rattle.checker.specs.declared.CheckError.{CheckError}
 
 -- the word at k fails, and those before it pass
 pub record First (p : ℕ → Bool) (ws : List ℕ) (k : ℕ) : Type 0 where
@@ -73,17 +72,11 @@ module _ (p : ℕ → Bool) where
 
 pub bound_at : (ws : List ℕ) (f : ℕ) → binds ws f ≡ true → (k : ℕ) × ((k < length ws) × (source_of (get_or ws k 0) ≡ f))
 unfolding binds
-bound_at [] f e = absurd (false≢true e)
-bound_at (w ∷ ws) f e =
-    either (λ b. b ≡ true → (k : ℕ) × ((k < suc (length ws)) × (source_of (get_or (w ∷ ws) k 0) ≡ f))) (eqb (source_of w) f)
-    (λ h _. (0, (omega arith, eqb-true (source_of w) f h)))
-    (λ _ u. let r = bound_at ws f u in (suc r.0, (omega (arith, r.1.0), r.1.1))) e
+bound_at ws f e = at_found source_of ws f e
 
 pub at_bound : (ws : List ℕ) (f k : ℕ) → k < length ws → source_of (get_or ws k 0) ≡ f → binds ws f ≡ true
 unfolding binds
-at_bound [] f k h e = absurd (omega arith)
-at_bound (w ∷ ws) f zero h e = rw (eq-eqb (source_of w) f e) refl
-at_bound (w ∷ ws) f (suc k) h e = either (λ b. b ≡ true) (eqb (source_of w) f) (λ _. refl) (λ _. at_bound ws f k (omega arith) e)
+at_bound ws f k h e = found_at source_of ws f k h e
 
 -- ---- 9
 
@@ -92,26 +85,24 @@ abbrev pub bound_in : List ℕ → ℕ → Bool
 bound_in ws s = binds ws (source_function s)
 
 module _ (ws : List ℕ) where
-  pub all_bound_none : (ss : List ℕ) → Passes (bound_in ws) ss → first_unbound ss ws ≡ no_function
+  pub all_bound_none : (ss : List ℕ) → Passes (bound_in ws) ss → first_unbound ss ws ≡ None
   unfolding first_unbound
   all_bound_none [] h = refl
   all_bound_none (s ∷ ss) h = rw (h 0 (omega arith)) (all_bound_none ss (passes_rest (bound_in ws) s ss h))
 
-  pub unbound_first : (ss : List ℕ) (k : ℕ) → First (bound_in ws) ss k → first_unbound ss ws ≡ source_function (get_or ss k 0)
+  pub unbound_first : (ss : List ℕ) (k : ℕ) → First (bound_in ws) ss k → first_unbound ss ws ≡ Some (source_function (get_or ss k 0))
   unfolding first_unbound
   unbound_first [] k q = absurd (omega (arith, q.within))
   unbound_first (s ∷ ss) zero q = rw q.fails refl
   unbound_first (s ∷ ss) (suc k) q = rw (q.before 0 (omega arith)) (unbound_first ss k (first_rest (bound_in ws) s ss k q))
 
-  -- functions are numbered from 1 on, so `no_function` is no source
-  pub none_all_bound : (ss : List ℕ) → ((i : ℕ) → i < length ss → 1 ≤ source_function (get_or ss i 0)) → first_unbound ss ws ≡ no_function
-      → Passes (bound_in ws) ss
+  pub none_all_bound : (ss : List ℕ) → first_unbound ss ws ≡ None → Passes (bound_in ws) ss
   unfolding first_unbound
-  none_all_bound [] least e = λ i h. absurd (omega arith)
-  none_all_bound (s ∷ ss) least e =
-      either (λ x. x ≡ no_function → Passes (bound_in ws) (s ∷ ss)) (not (bound_in ws s))
-      (λ b u. let l = least 0 (omega arith) in absurd (omega arith))
-      (λ b u. passes_more (bound_in ws) s ss (not-false (bound_in ws s) b) (none_all_bound ss (λ i h. least (suc i) (omega arith)) u))
+  none_all_bound [] e = λ i h. absurd (omega arith)
+  none_all_bound (s ∷ ss) e =
+      either (λ x. x ≡ None → Passes (bound_in ws) (s ∷ ss)) (not (bound_in ws s))
+      (λ b u. absurd (let z : ◌≡◌ {A = ℕ} 0 1 = cc in omega arith))
+      (λ b u. passes_more (bound_in ws) s ss (not-false (bound_in ws s) b) (none_all_bound ss u))
       e
 
 -- ---- 10
@@ -120,7 +111,7 @@ module _ (ws : List ℕ) where
 abbrev pub right_under : Terms → ℕ → Bool
 right_under t w = is_right (claim_in t.sources t.targets w) t.width
 
-module _ (t : Terms) (next : Ruling Checked) where
+module _ (t : Terms) (next : Ruling (Result ⊤ CheckError)) where
   pub all_right_next : (ws : List ℕ) → Passes (right_under t) ws → unless_wrong t ws next ≡ next
   unfolding unless_wrong
   all_right_next [] h = refl
@@ -134,10 +125,10 @@ module _ (t : Terms) (next : Ruling Checked) where
   wrong_first (w ∷ ws) (suc k) q = rw (q.before 0 (omega arith)) (wrong_first ws k (first_rest (right_under t) w ws k q))
 
   -- only where each is right can the answer be Accepted
-  pub accepted_all_right : (ws : List ℕ) → CheckRuled (unless_wrong t ws next) Accepted → Passes (right_under t) ws × CheckRuled next Accepted
+  pub accepted_all_right : (ws : List ℕ) → CheckRuled (unless_wrong t ws next) (Ok tt) → Passes (right_under t) ws × CheckRuled next (Ok tt)
   unfolding unless_wrong
   accepted_all_right [] h = (λ i l. absurd (omega arith), h)
   accepted_all_right (w ∷ ws) h =
-      either (λ x. CheckRuled x Accepted → Passes (right_under t) (w ∷ ws) × CheckRuled next Accepted) (not (right_under t w))
+      either (λ x. CheckRuled x (Ok tt) → Passes (right_under t) (w ∷ ws) × CheckRuled next (Ok tt)) (not (right_under t w))
       (λ _ u. absurd u)
       (λ b u. let r = accepted_all_right ws u in (passes_more (right_under t) w ws (not-false (right_under t w) b) r.0, r.1)) h

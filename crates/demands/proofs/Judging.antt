@@ -16,17 +16,17 @@ use Rattle.layout.specs.Layout.{recipe_fault}
 use Rattle.binding.specs.Right.{claim_of}
 use Rattle.verdict.specs.Verdicts.{Sentence, Refuses, Decides, Passes, judge_of, Judged, judgement_paper}
 use Rattle.verdict.specs.declared.Verdict.TheVariants as verdict
-use Rattle.verdict.specs.declared.Judgement.{Judgement}
-use Rattle.verdict.specs.declared.Judgement.TheVariants.{Decided, Refused}
+use Rattle.std.specs.Prelude.{Result, Ok, Err}
+use Rattle.verdict.specs.declared.Verdict.{Verdict}
 use Rattle.verdict.proofs.Verdicting.{not_right}
 use Rattle.demands.specs.Mapped.{RightRecipe}
 
 -- a refusal is told with its number
-told_number : (number place : ℕ) (j : Judgement) → Passes (Refuses (refusal number place)) j → (judgement_paper j).number ≡ number
-told_number number place (Refused r) e = ap (λ (x : Refusal). x.number) e
-told_number number place (Decided v) e = absurd e
+told_number : (number place : ℕ) (j : Result Verdict Refusal) → Passes (Refuses (refusal number place)) j → (judgement_paper j).number ≡ number
+told_number number place (Err r) e = ap (λ (x : Refusal). x.number) e
+told_number number place (Ok v) e = absurd e
 
-module _ (w n : ℕ) (j : Judgement) where
+module _ (w n : ℕ) (j : Result Verdict Refusal) where
   not_accepted : {Q : Type 0} (number place : ℕ) → (number ≡ 0 → ⊥) → Passes (Refuses (refusal number place)) j
       → judgement_paper j ≡ accepted [] → Q
   not_accepted number place some e a = absurd (some (sym (told_number number place j e) ∙ ap (λ (x : Paper). x.number) a))
@@ -35,10 +35,10 @@ module _ (w n : ℕ) (j : Judgement) where
       → judgement_paper j ≡ accepted [] → RightRecipe w n
   decided k f h = by_verdict j
     where
-      by_verdict : (j : Judgement) → Passes (Decides (claim_of w) n) j → judgement_paper j ≡ accepted [] → RightRecipe w n
-      by_verdict (Refused r) e a = absurd e
-      by_verdict (Decided verdict.Right) e a = record { a_recipe = k; faultless = f; a_width = h; right = e }
-      by_verdict (Decided (verdict.Wrong v)) e a =
+      by_verdict : (j : Result Verdict Refusal) → Passes (Decides (claim_of w) n) j → judgement_paper j ≡ accepted [] → RightRecipe w n
+      by_verdict (Err r) e a = absurd e
+      by_verdict (Ok verdict.Right) e a = record { a_recipe = k; faultless = f; a_width = h; right = e }
+      by_verdict (Ok (verdict.Wrong v)) e a =
           let z : ◌≡◌ {A = ℕ} 10 0 = ap (λ (x : Paper). x.number) a in absurd (omega arith)
 
   pub judged_right : Judged w n j → judgement_paper j ≡ accepted [] → RightRecipe w n
@@ -59,7 +59,7 @@ module _ (w n : ℕ) (j : Judgement) where
       = rw q.a_recipe (rw (eq-eqb (recipe_fault w) no_refusal q.faultless) (rw q.a_width refl)) in
       by_verdict j (subst (λ (x : Sentence). Passes x j) sentence answer)
     where
-      by_verdict : (j : Judgement) → Passes (Decides (claim_of w) n) j → judgement_paper j ≡ accepted []
-      by_verdict (Refused r) e = absurd e
-      by_verdict (Decided verdict.Right) e = refl
-      by_verdict (Decided (verdict.Wrong v)) e = absurd (not_right (claim_of w) n v e q.right)
+      by_verdict : (j : Result Verdict Refusal) → Passes (Decides (claim_of w) n) j → judgement_paper j ≡ accepted []
+      by_verdict (Err r) e = absurd e
+      by_verdict (Ok verdict.Right) e = refl
+      by_verdict (Ok (verdict.Wrong v)) e = absurd (not_right (claim_of w) n v e q.right)

@@ -1,6 +1,6 @@
 -- A bench that is sound before a bind is sound after it.
 use mathlib.Core.Path.{◌≡◌, refl, sym, ap, ◌∙◌}
-use mathlib.Core.Bool.{Bool, true, false, not, false≢true}
+use mathlib.Core.Bool.{◌||◌, Bool, true, false, not, false≢true}
 use mathlib.Core.List.{List, [], ◌∷◌}
 use Prim.Native.Nat.{ℕ, ◌+◌}
 use native.Mathlib.Numerals.{add-one}
@@ -48,7 +48,7 @@ module _ (n : ℕ) (all ts : List ℕ) (w : ℕ) (rule : rule_fault w ≡ 0) (ta
       go : (c : Bool) → eqb (source_function s) (source_of w) ≡ c
           → (lists_source ss (source_of w) ≡ true → bound_sound n all ts ss bs ≡ true
           → bound_sound n all ts ss (set bs (entry_of ss (source_of w)) w) ≡ true)
-          → (if c then true else lists_source ss (source_of w)) ≡ true
+          → c || lists_source ss (source_of w) ≡ true
           → bound_sound n all ts (s ∷ ss) (set (x ∷ bs) (if c then 0 else entry_of ss (source_of w) + 1) w) ≡ true
       go true h keep u =
           rw (bindable_sound s (sym (eqb-true (source_function s) (source_of w) h)))

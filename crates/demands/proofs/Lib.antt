@@ -29,3 +29,4 @@ pub mod Values
 pub mod Releases
 pub mod Counts
 pub mod Demands
+pub mod LowBits

@@ -5,34 +5,32 @@ use mathlib.Core.List.{List, [], ◌∷◌, ◌++◌}
 use Prim.Native.Nat.{ℕ, zero, suc, ◌+◌, ◌≤◌}
 use native.Mathlib.Omega.{arith}
 use lib.Dec.{eqb}
-use Rattle.std.specs.Prelude.{if◌then◌else◌}
+use Rattle.std.specs.Prelude.{is_ok, if◌then◌else◌, Result, Ok, Err, ⊤, Option, Some, None}
 use Rattle.words.specs.Field.{kind_of}
 use Rattle.words.specs.Kinds.{RULE}
 use Rattle.words.specs.Paper.{Paper, refusal, no_refusal}
 use Rattle.words.specs.declared.Refusal.{Refusal}
 use Rattle.words.proofs.Choices.{either}
-use Rattle.alu.specs.Function.{no_function}
 use Rattle.layout.specs.Layout.{laid_out, reads_undriven, shows_other, recipe_fault}
 use Rattle.recipe.specs.Fields.{source_of}
 use Rattle.binding.specs.declared.Claim.{Claim}
 use Rattle.verdict.specs.Verdicts.{Ruling, Gives, Names, Sentence, Refuses, Decides, Passes, judgement_paper}
 use Rattle.verdict.specs.declared.Verdict.TheVariants as verdict
-use Rattle.verdict.specs.declared.Judgement.{Judgement}
-use Rattle.verdict.specs.declared.Judgement.TheVariants as judgement
+use Rattle.checker.specs.declared.CheckError.{CheckError}
+use Rattle.reader.specs.declared.Job.{Job}
+use Rattle.verdict.specs.declared.Verdict.{Verdict}
 use Rattle.verdict.proofs.Verdicting.{not_right}
 use Rattle.reader.specs.Starts.{bindings_start}
 use Rattle.reader.specs.declared.Mapping.{Mapping}
 use Rattle.table.specs.Parts.{Terms, bindings_of, terms_of}
 use Rattle.table.specs.Table.{in_job}
 use Rattle.fitting.specs.Fitting.{all_in_job, fit_of}
-use Rattle.fitting.specs.declared.Fit.{Fit}
-use Rattle.fitting.specs.declared.Fit.TheVariants.{Fits, Misfit}
 use Rattle.glue.specs.Glue.{glue}
 use Rattle.completeness.specs.Complete.{first_unbound}
-use Rattle.checker.specs.Check.{CheckRuled, account_of, fitting_of, unless_misfit, judgement_of, ruled_of, ruling_of}
+use Rattle.checker.specs.Check.{CheckRuled, account_of, unless_unbound, fitting_of, unless_misfit, judgement_of, ruled_of, ruling_of}
 use Rattle.checker.specs.Check as checker
-use Rattle.checker.specs.declared.Checked.{Checked}
-use Rattle.checker.specs.declared.Checked.TheVariants as checked
+use Rattle.checker.specs.declared.CheckError.TheVariants as checked
+use Rattle.rightness.specs.Rightness.{unless_wrong}
 use Rattle.rightness.proofs.Judging.{right_or_named}
 use Rattle.soundness.specs.Sound.{rule_fault}
 use Rattle.bench.specs.Calls.{sound_bench, in_tables, has_binding, bind_fault, WrongAt, BindRuled}
@@ -43,13 +41,9 @@ use Rattle.bench.specs.declared.Answer.TheVariants as call
 use Rattle.bench.specs.declared.After.{After}
 use Rattle.reader.specs.Job.{job_of}
 use Rattle.reader.specs.Mapping.{mapping_of}
-use Rattle.reader.specs.declared.JobRead.{JobRead}
-use Rattle.reader.specs.declared.JobRead.TheVariants as job
-use Rattle.reader.specs.declared.MappingRead.{MappingRead}
-use Rattle.reader.specs.declared.MappingRead.TheVariants as mapping
 use Rattle.wellformed.proofs.Numbers.{job_number, mapping_number}
 use Rattle.fitting.specs.Pair.{pair_of, with_job}
-use Rattle.demands.specs.Answers.{among, OneNumber, judge_numbers, read_numbers, check_numbers, bind_numbers, judge_accepts, check_accepts, call_accepts}
+use Rattle.demands.specs.Answers.{among, OneNumber, judge_numbers, read_numbers, check_numbers, bind_numbers, judge_accepts, call_accepts}
 
 -- an answer that is accepted, or refused with a number of the list
 abbrev pub Listed : {A : Type 0} (accepts : A → Bool) (paper : A → Paper) (numbers : List ℕ) (r : A) → Type 0
@@ -84,45 +78,45 @@ recipe_number P w p3 p5 p6 p0 =
 -- ---- judge
 
 abbrev pub Judges : Sentence → Type 0
-Judges x = OneNumber Judgement judge_accepts judgement_paper judge_numbers (Passes x)
+Judges x = OneNumber (Result Verdict Refusal) judge_accepts judgement_paper judge_numbers (Passes x)
 
 pub sentence_refused : (number place : ℕ) → among judge_numbers number ≡ true → Judges (Refuses (refusal number place))
 sentence_refused number place h = record { listed = listed; never_two = never_two }
   where
-    listed : (j : Judgement) → Passes (Refuses (refusal number place)) j → Listed judge_accepts judgement_paper judge_numbers j
-    listed (judgement.Refused r) e = subst (λ (x : Refusal). among judge_numbers x.number ≡ true) (sym e) h
-    listed (judgement.Decided v) e = absurd e
+    listed : (j : Result Verdict Refusal) → Passes (Refuses (refusal number place)) j → Listed judge_accepts judgement_paper judge_numbers j
+    listed (Err r) e = subst (λ (x : Refusal). among judge_numbers x.number ≡ true) (sym e) h
+    listed (Ok v) e = absurd e
 
-    never_two : (j k : Judgement) → Passes (Refuses (refusal number place)) j → Passes (Refuses (refusal number place)) k
+    never_two : (j k : Result Verdict Refusal) → Passes (Refuses (refusal number place)) j → Passes (Refuses (refusal number place)) k
         → ((judgement_paper j).number ≡ (judgement_paper k).number) × ((judgement_paper j).place ≡ (judgement_paper k).place)
-    never_two (judgement.Refused r) (judgement.Refused s) e f = (
+    never_two (Err r) (Err s) e f = (
       ap (λ (x : Refusal). x.number) (e ∙ sym f),
       ap (λ (x : Refusal). x.place) (e ∙ sym f),
     )
-    never_two (judgement.Refused r) (judgement.Decided v) e f = absurd f
-    never_two (judgement.Decided v) k e f = absurd e
+    never_two (Err r) (Ok v) e f = absurd f
+    never_two (Ok v) k e f = absurd e
 
 pub sentence_decided : (c : Claim) (n : ℕ) → Judges (Decides c n)
 sentence_decided c n = record { listed = listed; never_two = never_two }
   where
-    listed : (j : Judgement) → Passes (Decides c n) j → Listed judge_accepts judgement_paper judge_numbers j
-    listed (judgement.Refused r) e = absurd e
-    listed (judgement.Decided verdict.Right) e = refl
-    listed (judgement.Decided (verdict.Wrong v)) e = refl
+    listed : (j : Result Verdict Refusal) → Passes (Decides c n) j → Listed judge_accepts judgement_paper judge_numbers j
+    listed (Err r) e = absurd e
+    listed (Ok verdict.Right) e = refl
+    listed (Ok (verdict.Wrong v)) e = refl
 
-    never_two : (j k : Judgement) → Passes (Decides c n) j → Passes (Decides c n) k
+    never_two : (j k : Result Verdict Refusal) → Passes (Decides c n) j → Passes (Decides c n) k
         → ((judgement_paper j).number ≡ (judgement_paper k).number) × ((judgement_paper j).place ≡ (judgement_paper k).place)
-    never_two (judgement.Refused r) k e f = absurd e
-    never_two (judgement.Decided v) (judgement.Refused s) e f = absurd f
-    never_two (judgement.Decided verdict.Right) (judgement.Decided verdict.Right) e f = (refl, refl)
-    never_two (judgement.Decided verdict.Right) (judgement.Decided (verdict.Wrong u)) e f = absurd (not_right c n u f e)
-    never_two (judgement.Decided (verdict.Wrong v)) (judgement.Decided verdict.Right) e f = absurd (not_right c n v e f)
-    never_two (judgement.Decided (verdict.Wrong v)) (judgement.Decided (verdict.Wrong u)) e f = (refl, e.named ∙ sym f.named)
+    never_two (Err r) k e f = absurd e
+    never_two (Ok v) (Err s) e f = absurd f
+    never_two (Ok verdict.Right) (Ok verdict.Right) e f = (refl, refl)
+    never_two (Ok verdict.Right) (Ok (verdict.Wrong u)) e f = absurd (not_right c n u f e)
+    never_two (Ok (verdict.Wrong v)) (Ok verdict.Right) e f = absurd (not_right c n v e f)
+    never_two (Ok (verdict.Wrong v)) (Ok (verdict.Wrong u)) e f = (refl, e.named ∙ sym f.named)
 
 -- ---- price and check
 
 -- 7, 8 or neither
-module _ (P : Fit → Type 0) (seven : P (Misfit (refusal 7 0))) (eight : (place : ℕ) → P (Misfit (refusal 8 place))) (neither : P Fits)
+module _ (P : Result ⊤ Refusal → Type 0) (seven : P (Err (refusal 7 0))) (eight : (place : ℕ) → P (Err (refusal 8 place))) (neither : P (Ok tt))
     (t : Terms) where
   by_fit : (place : ℕ) (ws : List ℕ) → P (all_in_job t.sources t.targets place ws)
   unfolding all_in_job
@@ -133,49 +127,52 @@ module _ (P : Fit → Type 0) (seven : P (Misfit (refusal 7 0))) (eight : (place
   unfolding fit_of
   fit_number m ws = either P (not (eqb t.width m.width)) (λ _. seven) (λ _. by_fit bindings_start ws)
 
-abbrev pub Checking : Ruling Checked → Type 0
-Checking x = OneNumber Checked check_accepts checker.paper_of check_numbers (CheckRuled x)
+abbrev pub Checking : Ruling (Result ⊤ CheckError) → Type 0
+Checking x = OneNumber (Result ⊤ CheckError) is_ok checker.paper_of check_numbers (CheckRuled x)
 
-pub check_gives : (a : Checked) → Listed check_accepts checker.paper_of check_numbers a → Checking (Gives a)
-check_gives a h = one_answer check_accepts checker.paper_of check_numbers a h
+pub check_gives : (a : Result ⊤ CheckError) → Listed is_ok checker.paper_of check_numbers a → Checking (Gives a)
+check_gives a h = one_answer is_ok checker.paper_of check_numbers a h
 
 pub check_names : (c : Claim) (n : ℕ) → Checking (Names c n)
 check_names c n = record { listed = listed; never_two = λ r s e f. (number r e ∙ sym (number s f), place r e ∙ sym (place s f)) }
   where
-    listed : (r : Checked) → CheckRuled (Names c n) r → Listed check_accepts checker.paper_of check_numbers r
-    listed checked.Accepted e = absurd e
-    listed (checked.JobRefused r) e = absurd e
-    listed (checked.MappingRefused r) e = absurd e
-    listed (checked.Refused r) e = absurd e
-    listed (checked.Wrong v) e = refl
+    listed : (r : Result ⊤ CheckError) → CheckRuled (Names c n) r → Listed is_ok checker.paper_of check_numbers r
+    listed (Ok tt) e = absurd e
+    listed (Err (checked.JobRefused r)) e = absurd e
+    listed (Err (checked.MappingRefused r)) e = absurd e
+    listed (Err (checked.Refused r)) e = absurd e
+    listed (Err (checked.Wrong v)) e = refl
 
-    number : (r : Checked) → CheckRuled (Names c n) r → (checker.paper_of r).number ≡ 10
-    number checked.Accepted e = absurd e
-    number (checked.JobRefused r) e = absurd e
-    number (checked.MappingRefused r) e = absurd e
-    number (checked.Refused r) e = absurd e
-    number (checked.Wrong v) e = refl
+    number : (r : Result ⊤ CheckError) → CheckRuled (Names c n) r → (checker.paper_of r).number ≡ 10
+    number (Ok tt) e = absurd e
+    number (Err (checked.JobRefused r)) e = absurd e
+    number (Err (checked.MappingRefused r)) e = absurd e
+    number (Err (checked.Refused r)) e = absurd e
+    number (Err (checked.Wrong v)) e = refl
 
-    place : (r : Checked) → CheckRuled (Names c n) r → (checker.paper_of r).place ≡ c.function
-    place checked.Accepted e = absurd e
-    place (checked.JobRefused r) e = absurd e
-    place (checked.MappingRefused r) e = absurd e
-    place (checked.Refused r) e = absurd e
-    place (checked.Wrong v) e = e.named
+    place : (r : Result ⊤ CheckError) → CheckRuled (Names c n) r → (checker.paper_of r).place ≡ c.function
+    place (Ok tt) e = absurd e
+    place (Err (checked.JobRefused r)) e = absurd e
+    place (Err (checked.MappingRefused r)) e = absurd e
+    place (Err (checked.Refused r)) e = absurd e
+    place (Err (checked.Wrong v)) e = e.named
 
 module _ (t : Terms) (m : Mapping) (ws : List ℕ) where
   account_number : Checking (Gives (account_of t m ws))
   unfolding account_of
   account_number =
-      either (λ (x : Checked). Checking (Gives x)) (not (eqb (glue t.width t.prices ws) m.glue)) (λ _. check_gives _ refl)
-      (λ _. check_gives checked.Accepted refl)
+      either (λ (x : Result ⊤ CheckError). Checking (Gives x)) (not (eqb (glue t.width t.prices ws) m.glue)) (λ _. check_gives _ refl)
+      (λ _. check_gives (Ok tt) refl)
 
   fitting_number : Checking (fitting_of t m ws)
   unfolding fitting_of
-  fitting_number =
-      either Checking (not (eqb (first_unbound t.sources ws) no_function)) (λ _. check_gives _ refl)
-      (λ _. right_or_named (λ x _. Checking x) t ws (Gives (account_of t m ws)) (Gives (account_of t m ws)) account_number
-      (λ c. check_names c t.width))
+  fitting_number = go (first_unbound t.sources ws)
+    where
+      go : (f : Option ℕ) → Checking (unless_unbound f (unless_wrong t ws (Gives (account_of t m ws))))
+      go (Some f) = check_gives _ refl
+      go None =
+          right_or_named (λ x _. Checking x) t ws (Gives (account_of t m ws)) (Gives (account_of t m ws)) account_number
+          (λ c. check_names c t.width)
 
   pub judgement_number : Checking (judgement_of t m ws)
   unfolding judgement_of
@@ -187,12 +184,12 @@ pub check_number : (jw mw : List ℕ) → Checking (ruling_of jw mw)
 unfolding ruling_of pair_of
 check_number jw mw = go (job_of jw) refl (mapping_of mw) refl
   where
-    go : (j : JobRead) → job_of jw ≡ j → (m : MappingRead) → mapping_of mw ≡ m → Checking (ruled_of jw mw (with_job j m))
-    go (job.Refused r) e m f =
-        check_gives (checked.JobRefused r) (of_reading (7 ∷ 8 ∷ 9 ∷ 10 ∷ 11 ∷ []) r.number (job_number r jw e))
-    go (job.Accepted j) e (mapping.Refused r) f =
-        check_gives (checked.MappingRefused r) (of_reading (7 ∷ 8 ∷ 9 ∷ 10 ∷ 11 ∷ []) r.number (mapping_number r mw f))
-    go (job.Accepted j) e (mapping.Accepted m) f = judgement_number (terms_of jw j) m (bindings_of mw m)
+    go : (j : Result Job Refusal) → job_of jw ≡ j → (m : Result Mapping Refusal) → mapping_of mw ≡ m → Checking (ruled_of jw mw (with_job j m))
+    go (Err r) e m f =
+        check_gives (Err (checked.JobRefused r)) (of_reading (7 ∷ 8 ∷ 9 ∷ 10 ∷ 11 ∷ []) r.number (job_number r jw e))
+    go (Ok j) e (Err r) f =
+        check_gives (Err (checked.MappingRefused r)) (of_reading (7 ∷ 8 ∷ 9 ∷ 10 ∷ 11 ∷ []) r.number (mapping_number r mw f))
+    go (Ok j) e (Ok m) f = judgement_number (terms_of jw j) m (bindings_of mw m)
 
 -- ---- the calls of a bench
 

@@ -15,8 +15,8 @@ use Rattle.sequence.specs.Limits.{most_sources, most_targets}
 use Rattle.reader.specs.Starts.{sources_start, targets_start}
 use Rattle.reader.specs.Job.{job_of, WellFormedJob}
 use Rattle.reader.specs.declared.Job.{Job}
-use Rattle.reader.specs.declared.JobRead.{JobRead}
-use Rattle.reader.specs.declared.JobRead.TheVariants as read
+use Rattle.std.specs.Prelude.{Result, Ok, Err}
+use Rattle.words.specs.declared.Refusal.{Refusal}
 use Rattle.wellformed.proofs.Parts.{Entry}
 use Rattle.wellformed.proofs.JobWords.{JobFacts, well_formed}
 use Rattle.wellformed.proofs.JobAccepting.{laid, laid_well_formed, accepts}
@@ -145,6 +145,6 @@ pub open_sound : (ws : List ℕ) → (open_of ws).answer ≡ Done → sound_benc
 unfolding open_of
 open_sound ws = go (job_of ws) refl
   where
-    go : (r : JobRead) → job_of ws ≡ r → (open_for ws r).answer ≡ Done → sound_bench (open_for ws r).bench ≡ true
-    go (read.Accepted job) e d = opened_sound ws job e
-    go (read.Refused r) e d = let z : ◌≡◌ {A = ℕ} 0 1 = cc in absurd (omega arith)
+    go : (r : Result Job Refusal) → job_of ws ≡ r → (open_for ws r).answer ≡ Done → sound_bench (open_for ws r).bench ≡ true
+    go (Ok job) e d = opened_sound ws job e
+    go (Err r) e d = let z : ◌≡◌ {A = ℕ} 0 1 = cc in absurd (omega arith)

@@ -10,12 +10,10 @@ use Rattle.words.specs.Paper.{Paper, accepted, refused, told}
 use Rattle.words.specs.declared.Refusal.{Refusal}
 use Rattle.reader.specs.Job.{job_of, WellFormedJob}
 use Rattle.reader.specs.declared.Job.{Job}
-use Rattle.reader.specs.declared.JobRead.{JobRead}
-use Rattle.reader.specs.declared.JobRead.TheVariants as job_read
+use Rattle.std.specs.Prelude.{Result, Ok, Err}
 use Rattle.pricer.specs.Pricing.{glue_of}
 use Rattle.writer.specs.Write.{words_needed, written_of}
 use Rattle.writer.proofs.Writing.{mapping_length, written_words, untouched}
-use Rattle.choice.specs.Choose.{Choice, Mapped, Unmappable}
 use Rattle.mapper.specs.Mapping.{choice_of, chosen_words, answer_of, lent_after_map, paper_of}
 use Rattle.demands.proofs.Chosen.{one_each}
 
@@ -27,33 +25,33 @@ accepted_apart n number place e =
     absurd (omega arith)
 
 pub data Outcome (ws lent : List ℕ) : Type 0 where
-  Unread : (r : Refusal) → job_of ws ≡ job_read.Refused r → paper_of (answer_of ws lent) ≡ told r
+  Unread : (r : Refusal) → job_of ws ≡ Err r → paper_of (answer_of ws lent) ≡ told r
       → lent_after_map ws lent ≡ lent → Outcome ws lent
-  Unmapped : (job : Job) (place : ℕ) → WellFormedJob ws job → choice_of ws job ≡ Unmappable place
+  Unmapped : (job : Job) (place : ℕ) → WellFormedJob ws job → choice_of ws job ≡ Err place
       → paper_of (answer_of ws lent) ≡ refused 12 place → lent_after_map ws lent ≡ lent → Outcome ws lent
-  Short : (job : Job) (bound : List ℕ) → WellFormedJob ws job → choice_of ws job ≡ Mapped bound
+  Short : (job : Job) (bound : List ℕ) → WellFormedJob ws job → choice_of ws job ≡ Ok bound
       → length lent < words_needed job.sources → paper_of (answer_of ws lent) ≡ refused 23 (words_needed job.sources)
       → lent_after_map ws lent ≡ lent → Outcome ws lent
-  Writes : (job : Job) (bound : List ℕ) → WellFormedJob ws job → choice_of ws job ≡ Mapped bound
+  Writes : (job : Job) (bound : List ℕ) → WellFormedJob ws job → choice_of ws job ≡ Ok bound
       → words_needed job.sources ≤ length lent → paper_of (answer_of ws lent) ≡ accepted (words_needed job.sources ∷ [])
       → lent_after_map ws lent ≡ chosen_words job bound ++ drop (words_needed job.sources) lent → Outcome ws lent
 
 module _ (ws lent : List ℕ) where
-  of_refused : (r : Refusal) → job_of ws ≡ job_read.Refused r → Outcome ws lent
+  of_refused : (r : Refusal) → job_of ws ≡ Err r → Outcome ws lent
   unfolding answer_of lent_after_map
   of_refused r e = Unread r e (rw e refl) (rw e refl)
 
   -- where a job is read its choice decides
   module _ (job : Job) (e : WellFormedJob ws job) where
-    pub unmappable_answer : (place : ℕ) → choice_of ws job ≡ Unmappable place → paper_of (answer_of ws lent) ≡ refused 12 place
+    pub unmappable_answer : (place : ℕ) → choice_of ws job ≡ Err place → paper_of (answer_of ws lent) ≡ refused 12 place
     unfolding answer_of
     unmappable_answer place c = rw e (rw c refl)
 
-    of_unmappable : (place : ℕ) → choice_of ws job ≡ Unmappable place → Outcome ws lent
+    of_unmappable : (place : ℕ) → choice_of ws job ≡ Err place → Outcome ws lent
     unfolding lent_after_map
     of_unmappable place c = Unmapped job place e c (unmappable_answer place c) (rw e (rw c refl))
 
-    module _ (bound : List ℕ) (c : choice_of ws job ≡ Mapped bound) where
+    module _ (bound : List ℕ) (c : choice_of ws job ≡ Ok bound) where
       one : length bound ≡ job.sources
       one = one_each ws job e bound c
 
@@ -88,13 +86,13 @@ module _ (ws lent : List ℕ) where
                 Writes job bound e c h w.0 w.1
           ]
 
-    of_job : (c : Choice) → choice_of ws job ≡ c → Outcome ws lent
-    of_job (Mapped bound) c = of_mapped bound c
-    of_job (Unmappable place) c = of_unmappable place c
+    of_job : (c : Result (List ℕ) ℕ) → choice_of ws job ≡ c → Outcome ws lent
+    of_job (Ok bound) c = of_mapped bound c
+    of_job (Err place) c = of_unmappable place c
 
-  of_read : (r : JobRead) → job_of ws ≡ r → Outcome ws lent
-  of_read (job_read.Accepted job) e = of_job job e (choice_of ws job) refl
-  of_read (job_read.Refused r) e = of_refused r e
+  of_read : (r : Result Job Refusal) → job_of ws ≡ r → Outcome ws lent
+  of_read (Ok job) e = of_job job e (choice_of ws job) refl
+  of_read (Err r) e = of_refused r e
 
   pub outcome : Outcome ws lent
   outcome = of_read (job_of ws) refl

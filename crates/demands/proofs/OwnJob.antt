@@ -14,8 +14,8 @@ use Rattle.sequence.specs.Limits.{most_sources, most_targets}
 use Rattle.reader.specs.Starts.{targets_start}
 use Rattle.reader.specs.Job.{job_of, WellFormedJob}
 use Rattle.reader.specs.declared.Job.{Job}
-use Rattle.reader.specs.declared.JobRead.{JobRead}
-use Rattle.reader.specs.declared.JobRead.TheVariants.{Accepted, Refused}
+use Rattle.std.specs.Prelude.{Result, Ok, Err}
+use Rattle.words.specs.declared.Refusal.{Refusal}
 use Rattle.wellformed.proofs.Parts.{content_of-laid}
 use Rattle.wellformed.proofs.JobWords.{JobFacts, well_formed}
 use Rattle.wellformed.proofs.JobAccepting.{laid_prices}
@@ -72,9 +72,9 @@ module _ (b : Bench) (h : Shaped b) (s : sound_bench b ≡ true) where
     sources : job.sources ≡ t.nsources
     targets : job.targets ≡ t.ntargets
 
-  own_job : (r : JobRead) → job_of words ≡ r → holds t.nsources t.ntargets r ≡ true → (job : Job) × Own job
-  own_job (Refused r) e held = absurd (false≢true held)
-  own_job (Accepted job) e held =
+  own_job : (r : Result Job Refusal) → job_of words ≡ r → holds t.nsources t.ntargets r ≡ true → (job : Job) × Own job
+  own_job (Err r) e held = absurd (false≢true held)
+  own_job (Ok job) e held =
       let p = and_split (eqb job.sources t.nsources) (eqb job.targets t.ntargets) held in (
         job,
         record {

@@ -9,15 +9,21 @@ use Rattle.words.specs.Field.{kind_of}
 use Rattle.words.specs.Kinds.{is_recipe}
 use Rattle.words.specs.Paper.{no_refusal, accepted}
 use Rattle.words.proofs.Choices.{either}
-use Rattle.alu.specs.Function.{no_function}
+use Rattle.alu.specs.Function.{no_function, function_of, ports}
 use Rattle.layout.specs.Layout.{recipe_fault}
 use Rattle.verdict.specs.Verdicts.{judgement_paper, judge_of, Judged}
-use Rattle.verdict.specs.declared.Judgement.{Judgement}
+use Rattle.std.specs.Prelude.{is_ok, Result, Ok, Err, ⊤, Option, Some, None}
+use Rattle.bits.specs.declared.Ports.{Ports}
+use Rattle.checker.specs.declared.CheckError.{CheckError}
+use Rattle.fitting.specs.declared.PairError.{PairError}
+use Rattle.reader.specs.declared.Job.{Job}
+use Rattle.reader.specs.declared.Mapping.{Mapping}
+use Rattle.verdict.specs.declared.Verdict.{Verdict}
+use Rattle.words.specs.declared.Refusal.{Refusal}
 use Rattle.table.specs.Parts.{bindings_of, terms_of}
 use Rattle.glue.specs.Glue.{glue}
 use Rattle.checker.specs.Check.{Checks}
 use Rattle.checker.specs.Check as checker
-use Rattle.checker.specs.declared.Checked.{Checked}
 use Rattle.bench.specs.Calls.{sound_bench, has_binding, bind_fault, bench_of_zeros, open_for, open_of, claim_on, bind_of, Binds, release_of, price_of, unbound_on, finish_written, finish_of}
 use Rattle.bench.specs.Calls as bench
 use Rattle.bench.specs.declared.Bench.{Bench}
@@ -27,31 +33,21 @@ use lib.ListN.{length}
 use borrow.Author.Tests.{not-true}
 use Rattle.alu.specs.Evaluate as alu
 use Rattle.alu.specs.Range.{is_width}
-use Rattle.alu.specs.declared.Evaluation.{Evaluation}
 use Rattle.binding.specs.Right.{is_right, claim_of}
 use Rattle.reader.specs.Job.{job_of}
 use Rattle.reader.specs.Job as job-reader
 use Rattle.reader.specs.Mapping.{mapping_of}
 use Rattle.reader.specs.Mapping as mapping-reader
-use Rattle.reader.specs.declared.JobRead.{JobRead}
-use Rattle.reader.specs.declared.JobRead.TheVariants as job
-use Rattle.reader.specs.declared.MappingRead.{MappingRead}
-use Rattle.reader.specs.declared.MappingRead.TheVariants as mapping
 use Rattle.wellformed.proofs.Numbers.{job_number, mapping_number}
 use Rattle.fitting.specs.Pair.{pair_of, with_job}
 use Rattle.pricer.specs.Pricing.{counted, priced_pair, pricing_of}
 use Rattle.pricer.specs.Pricing as pricer
-use Rattle.pricer.specs.declared.Priced.{Priced}
 use Rattle.writer.specs.Write.{words_needed, written_of}
 use Rattle.writer.specs.Write as writer
-use Rattle.writer.specs.declared.Written.{Written}
-use Rattle.choice.specs.Choose.{Choice, Mapped, Unmappable}
-use Rattle.mapper.specs.Mapping.{choice_of, map_written, answer_to, answer_for, answer_of, lent_after_map}
+use Rattle.mapper.specs.Mapping.{choice_of, answer_to, answer_for, answer_of, lent_after_map}
 use Rattle.mapper.specs.Mapping as mapper
-use Rattle.mapper.specs.declared.Answer as map-answer
-use Rattle.mapper.specs.declared.Answer.TheVariants as mapped
 use Rattle.bench.specs.Shape.{Shaped}
-use Rattle.demands.specs.Answers.{among, OneNumber, judge_numbers, read_numbers, check_numbers, bind_numbers, release_numbers, judge_accepts, check_accepts, call_accepts, write_numbers, write_accepts, evaluate_numbers, price_numbers, map_numbers, bench_price_numbers, finish_numbers, evaluate_accepts, job_accepts, mapping_accepts, price_accepts, map_accepts}
+use Rattle.demands.specs.Answers.{among, OneNumber, judge_numbers, read_numbers, check_numbers, bind_numbers, release_numbers, judge_accepts, call_accepts, write_numbers, evaluate_numbers, price_numbers, map_numbers, bench_price_numbers, finish_numbers}
 use Rattle.demands.proofs.OpenedSound.{zeros-not_sound}
 use Rattle.demands.proofs.Outcomes.{accepted_apart, Outcome, Unread, Unmapped, Short, Writes, outcome}
 use Rattle.demands.proofs.Allowed.{Outcome as Bind, Bound, Unchanged, outcome as bind}
@@ -62,14 +58,17 @@ use Rattle.demands.proofs.Numbered.{Listed, one_answer, of_reading, recipe_numbe
 -- ---- evaluate, judge, read_job, read_mapping
 
 pub evaluate_answers : (f n left right carry : ℕ)
-    → OneNumber Evaluation evaluate_accepts alu.paper_of evaluate_numbers (λ r. r ≡ alu.evaluation f n left right carry)
+    → OneNumber (Result Ports Refusal) is_ok alu.paper_of evaluate_numbers (λ r. r ≡ alu.evaluation f n left right carry)
 unfolding alu.evaluation
 evaluate_answers f n left right carry =
-    one_answer evaluate_accepts alu.paper_of evaluate_numbers (alu.evaluation f n left right carry)
-    (either (λ (x : Evaluation). Listed evaluate_accepts alu.paper_of evaluate_numbers x)
-    (ltb (alu.first_out_of_range f n left right carry) alu.in_range) (λ _. refl) (λ _. refl))
+    one_answer is_ok alu.paper_of evaluate_numbers (alu.evaluation f n left right carry)
+    (listed (alu.first_out_of_range f n left right carry) (ports (function_of f) n left right (eqb carry 1)))
+  where
+    listed : (place : Option ℕ) (p : Ports) → Listed is_ok alu.paper_of evaluate_numbers (alu.answer place p)
+    listed (Some place) p = refl
+    listed None p = refl
 
-pub judge_answers : (w n : ℕ) → OneNumber Judgement judge_accepts judgement_paper judge_numbers (Judged w n)
+pub judge_answers : (w n : ℕ) → OneNumber (Result Verdict Refusal) judge_accepts judgement_paper judge_numbers (Judged w n)
 unfolding judge_of
 judge_answers w n =
     either Judges (not (is_recipe (kind_of w))) (λ _. sentence_refused 2 0 refl)
@@ -82,64 +81,64 @@ judge_answers w n =
         recipe_number (λ x. eqb x no_refusal ≡ false → among judge_numbers x ≡ true) w (λ _. refl) (λ _. refl) (λ _. refl)
         (λ e. sym e)
 
-pub read_job_answers : (ws : List ℕ) → OneNumber JobRead job_accepts job-reader.paper_of read_numbers (λ r. r ≡ job_of ws)
-read_job_answers ws = one_answer job_accepts job-reader.paper_of read_numbers (job_of ws) (go (job_of ws) refl)
+pub read_job_answers : (ws : List ℕ) → OneNumber (Result Job Refusal) is_ok job-reader.paper_of read_numbers (λ r. r ≡ job_of ws)
+read_job_answers ws = one_answer is_ok job-reader.paper_of read_numbers (job_of ws) (go (job_of ws) refl)
   where
-    go : (r : JobRead) → job_of ws ≡ r → Listed job_accepts job-reader.paper_of read_numbers r
-    go (job.Accepted j) e = refl
-    go (job.Refused r) e = of_reading [] r.number (job_number r ws e)
+    go : (r : Result Job Refusal) → job_of ws ≡ r → Listed is_ok job-reader.paper_of read_numbers r
+    go (Ok j) e = refl
+    go (Err r) e = of_reading [] r.number (job_number r ws e)
 
 pub read_mapping_answers : (ws : List ℕ)
-    → OneNumber MappingRead mapping_accepts mapping-reader.paper_of read_numbers (λ r. r ≡ mapping_of ws)
-read_mapping_answers ws = one_answer mapping_accepts mapping-reader.paper_of read_numbers (mapping_of ws) (go (mapping_of ws) refl)
+    → OneNumber (Result Mapping Refusal) is_ok mapping-reader.paper_of read_numbers (λ r. r ≡ mapping_of ws)
+read_mapping_answers ws = one_answer is_ok mapping-reader.paper_of read_numbers (mapping_of ws) (go (mapping_of ws) refl)
   where
-    go : (r : MappingRead) → mapping_of ws ≡ r → Listed mapping_accepts mapping-reader.paper_of read_numbers r
-    go (mapping.Accepted m) e = refl
-    go (mapping.Refused r) e = of_reading [] r.number (mapping_number r ws e)
+    go : (r : Result Mapping Refusal) → mapping_of ws ≡ r → Listed is_ok mapping-reader.paper_of read_numbers r
+    go (Ok m) e = refl
+    go (Err r) e = of_reading [] r.number (mapping_number r ws e)
 
 -- ---- price and check, of a job and a mapping
 
-pub price_answers : (jw mw : List ℕ) → OneNumber Priced price_accepts pricer.paper_of price_numbers (λ r. r ≡ pricing_of jw mw)
+pub price_answers : (jw mw : List ℕ) → OneNumber (Result ℕ PairError) is_ok pricer.paper_of price_numbers (λ r. r ≡ pricing_of jw mw)
 unfolding pricing_of pair_of
-price_answers jw mw = one_answer price_accepts pricer.paper_of price_numbers (pricing_of jw mw) (go (job_of jw) refl (mapping_of mw) refl)
+price_answers jw mw = one_answer is_ok pricer.paper_of price_numbers (pricing_of jw mw) (go (job_of jw) refl (mapping_of mw) refl)
   where
-    go : (j : JobRead) → job_of jw ≡ j → (m : MappingRead) → mapping_of mw ≡ m
-        → Listed price_accepts pricer.paper_of price_numbers (priced_pair jw mw (with_job j m))
-    go (job.Refused r) e m f = of_reading (7 ∷ 8 ∷ []) r.number (job_number r jw e)
-    go (job.Accepted j) e (mapping.Refused r) f = of_reading (7 ∷ 8 ∷ []) r.number (mapping_number r mw f)
-    go (job.Accepted j) e (mapping.Accepted m) f =
+    go : (j : Result Job Refusal) → job_of jw ≡ j → (m : Result Mapping Refusal) → mapping_of mw ≡ m
+        → Listed is_ok pricer.paper_of price_numbers (priced_pair jw mw (with_job j m))
+    go (Err r) e m f = of_reading (7 ∷ 8 ∷ []) r.number (job_number r jw e)
+    go (Ok j) e (Err r) f = of_reading (7 ∷ 8 ∷ []) r.number (mapping_number r mw f)
+    go (Ok j) e (Ok m) f =
         let t = terms_of jw j in
         let ws = bindings_of mw m in
-        fit_number (λ x. Listed price_accepts pricer.paper_of price_numbers (counted x (glue t.width t.prices ws))) refl (λ place. refl)
+        fit_number (λ x. Listed is_ok pricer.paper_of price_numbers (counted x (glue t.width t.prices ws))) refl (λ place. refl)
         refl t m ws
 
-pub check_answers : (jw mw : List ℕ) → OneNumber Checked check_accepts checker.paper_of check_numbers (Checks jw mw)
+pub check_answers : (jw mw : List ℕ) → OneNumber (Result ⊤ CheckError) is_ok checker.paper_of check_numbers (Checks jw mw)
 check_answers jw mw = check_number jw mw
 
 -- ---- map, and what it has in common with finish: the writing of a mapping
 
 pub write_answers : (sources : ℕ) (lent : List ℕ)
-    → OneNumber Written write_accepts writer.paper_of write_numbers (λ r. r ≡ written_of sources lent)
+    → OneNumber (Result ℕ Refusal) is_ok writer.paper_of write_numbers (λ r. r ≡ written_of sources lent)
 unfolding written_of
 write_answers sources lent =
-    one_answer write_accepts writer.paper_of write_numbers (written_of sources lent)
-    (either (λ (x : Written). Listed write_accepts writer.paper_of write_numbers x) (ltb (length lent) (words_needed sources)) (λ _. refl)
+    one_answer is_ok writer.paper_of write_numbers (written_of sources lent)
+    (either (λ (x : Result ℕ Refusal). Listed is_ok writer.paper_of write_numbers x) (ltb (length lent) (words_needed sources)) (λ _. refl)
     (λ _. refl))
 
 pub map_answers : (ws lent : List ℕ)
-    → OneNumber map-answer.Answer map_accepts mapper.paper_of map_numbers (λ r. r ≡ answer_of ws lent)
+    → OneNumber (Result ℕ Refusal) is_ok mapper.paper_of map_numbers (λ r. r ≡ answer_of ws lent)
 unfolding answer_of written_of
-map_answers ws lent = one_answer map_accepts mapper.paper_of map_numbers (answer_of ws lent) (go (job_of ws) refl)
+map_answers ws lent = one_answer is_ok mapper.paper_of map_numbers (answer_of ws lent) (go (job_of ws) refl)
   where
-    by_choice : (c : Choice) → Listed map_accepts mapper.paper_of map_numbers (answer_to c lent)
-    by_choice (Unmappable place) = refl
-    by_choice (Mapped bound) =
-        either (λ (x : Written). Listed map_accepts mapper.paper_of map_numbers (map_written x))
+    by_choice : (c : Result (List ℕ) ℕ) → Listed is_ok mapper.paper_of map_numbers (answer_to c lent)
+    by_choice (Err place) = refl
+    by_choice (Ok bound) =
+        either (λ (x : Result ℕ Refusal). Listed is_ok mapper.paper_of map_numbers x)
         (ltb (length lent) (words_needed (length bound))) (λ _. refl) (λ _. refl)
 
-    go : (r : JobRead) → job_of ws ≡ r → Listed map_accepts mapper.paper_of map_numbers (answer_for ws r lent)
-    go (job.Refused r) e = of_reading (12 ∷ 23 ∷ []) r.number (job_number r ws e)
-    go (job.Accepted j) e = by_choice (choice_of ws j)
+    go : (r : Result Job Refusal) → job_of ws ≡ r → Listed is_ok mapper.paper_of map_numbers (answer_for ws r lent)
+    go (Err r) e = of_reading (12 ∷ 23 ∷ []) r.number (job_number r ws e)
+    go (Ok j) e = by_choice (choice_of ws j)
 
 -- ---- open, bind, release, price, finish
 
@@ -147,9 +146,9 @@ pub open_answers : (ws : List ℕ) → OneNumber After accepts paper read_number
 unfolding open_of
 open_answers ws = one_answer accepts paper read_numbers (open_of ws) (go (job_of ws) refl)
   where
-    go : (r : JobRead) → job_of ws ≡ r → Listed accepts paper read_numbers (open_for ws r)
-    go (job.Accepted j) e = refl
-    go (job.Refused r) e = of_reading [] r.number (job_number r ws e)
+    go : (r : Result Job Refusal) → job_of ws ≡ r → Listed accepts paper read_numbers (open_for ws r)
+    go (Ok j) e = refl
+    go (Err r) e = of_reading [] r.number (job_number r ws e)
 
 pub bind_answers : (b : Bench) (w : ℕ) → OneNumber After accepts paper bind_numbers (Binds b w)
 unfolding bind_of
@@ -179,7 +178,7 @@ finish_answers b lent =
     one_answer accepts paper finish_numbers (finish_of b lent)
     (either P (not (sound_bench b)) (λ _. refl)
     (λ _. either P (not (eqb (unbound_on b) no_function)) (λ _. refl)
-    (λ _. either (λ (x : Written). P (finish_written x)) (ltb (length lent) (words_needed b.tables.nsources)) (λ _. refl) (λ _. refl))))
+    (λ _. either (λ (x : Result ℕ Refusal). P (finish_written x)) (ltb (length lent) (words_needed b.tables.nsources)) (λ _. refl) (λ _. refl))))
 
 -- ---- "A refusal hands back the bench it was given and writes to no lent word."
 
@@ -189,10 +188,10 @@ pub refused-open_hands_back_zeros : (ws : List ℕ) → call_accepts (open_of ws
 unfolding open_of
 refused-open_hands_back_zeros ws = go (job_of ws)
   where
-    go : (r : JobRead) → call_accepts (open_for ws r).answer ≡ false
+    go : (r : Result Job Refusal) → call_accepts (open_for ws r).answer ≡ false
         → ((open_for ws r).bench ≡ bench_of_zeros) × (sound_bench bench_of_zeros ≡ false)
-    go (job.Accepted j) e = absurd (true≢false e)
-    go (job.Refused r) e = (refl, zeros-not_sound)
+    go (Ok j) e = absurd (true≢false e)
+    go (Err r) e = (refl, zeros-not_sound)
 
 pub refused-bind_changes_nothing : (b : Bench) (w : ℕ) (r : After) → Binds b w r → call_accepts r.answer ≡ false → r.bench ≡ b
 refused-bind_changes_nothing b w r answer e = by_outcome (bind b w r answer)
@@ -217,12 +216,12 @@ pub finish_hands_back : (b : Bench) (lent : List ℕ) → (finish_of b lent).ben
 unfolding finish_of
 finish_hands_back b lent = refl
 
-pub refused-map_writes_nothing : (ws lent : List ℕ) → map_accepts (answer_of ws lent) ≡ false → lent_after_map ws lent ≡ lent
+pub refused-map_writes_nothing : (ws lent : List ℕ) → is_ok (answer_of ws lent) ≡ false → lent_after_map ws lent ≡ lent
 refused-map_writes_nothing ws lent e = by_outcome (outcome ws lent)
   where
-    by_answer : (a : map-answer.Answer) → map_accepts a ≡ false → (n : ℕ) → mapper.paper_of a ≡ accepted (n ∷ []) → ⊥
-    by_answer (mapped.Mapping k) e n p = true≢false e
-    by_answer (mapped.Refused r) e n p = accepted_apart n r.number r.place (sym p)
+    by_answer : (a : Result ℕ Refusal) → is_ok a ≡ false → (n : ℕ) → mapper.paper_of a ≡ accepted (n ∷ []) → ⊥
+    by_answer (Ok k) e n p = true≢false e
+    by_answer (Err r) e n p = accepted_apart n r.number r.place (sym p)
 
     by_outcome : Outcome ws lent → lent_after_map ws lent ≡ lent
     by_outcome (Unread r _ _ kept) = kept

@@ -12,7 +12,7 @@ use Rattle.reader.specs.Starts.{sources_start}
 use Rattle.reader.specs.declared.Job.{Job}
 use Rattle.wellformed.proofs.JobWords.{well_formed}
 use Rattle.table.specs.Parts.{sources_of, terms_of}
-use Rattle.choice.specs.Choose.{Unmappable}
+use Rattle.std.specs.Prelude.{Err}
 use Rattle.mapper.specs.Mapping.{rules_for, choice_of}
 use Rattle.mapper.proofs.Answering.{sources_length}
 use Rattle.demands.specs.Mapped.{source_at}
@@ -34,7 +34,7 @@ module _ (ws : List ℕ) (job : Job) where
     pub sources_rise : (i k : ℕ) → i < k → k < job.sources → source_at ws i < source_at ws k
     sources_rise i k l h = rises ws sources_start job.sources content_of (well_formed ws job e).sources_rise i k l h
 
-    pub unmappable_lowest : (place : ℕ) → choice_of ws job ≡ Unmappable place → LowestUnserved ws job place
+    pub unmappable_lowest : (place : ℕ) → choice_of ws job ≡ Err place → LowestUnserved ws job place
     unmappable_lowest place c =
         let u = unmappable_unserved (terms_of ws job) (rules_for ws job) (sources_of ws job) [] place c in
         let n = sources_length ws job e in

@@ -9,7 +9,7 @@ use native.Mathlib.Omega.{arith}
 use lib.Dec.{eqb, ltb}
 use lib.ListN.{length, take, drop}
 use borrow.Author.Tests.{eqb-false, lt-leb, le-ltb}
-use Rattle.std.specs.Prelude.{if◌then◌else◌}
+use Rattle.std.specs.Prelude.{if◌then◌else◌, Result, Ok, Err, ⊤}
 use Rattle.words.specs.Paper.{Paper, refusal, accepted, refused, source_place}
 use Rattle.bits.specs.Bits.{num}
 use Rattle.bits.specs.declared.Ports.{Ports}
@@ -23,23 +23,20 @@ use Rattle.reader.specs.Job.{WellFormedJob}
 use Rattle.reader.specs.Mapping.{mapping_of}
 use Rattle.reader.specs.Mapping as reader
 use Rattle.reader.specs.declared.Job.{Job}
-use Rattle.reader.specs.declared.JobRead.TheVariants.{Accepted}
+use Rattle.checker.specs.declared.CheckError.{CheckError}
+use Rattle.words.specs.declared.Refusal.{Refusal}
 use Rattle.reader.specs.declared.Mapping.{Mapping}
 use Rattle.wellformed.proofs.Numbers.{job_number}
 use Rattle.table.specs.Parts.{sources_of, targets_of, bindings_of, terms_of}
 use Rattle.fitting.specs.Pair.{pair_of}
-use Rattle.fitting.specs.declared.Fit.{Fit}
 use Rattle.pricer.specs.Pricing.{counted, glue_of, pricing_of}
 use Rattle.pricer.specs.Pricing as pricer
 use Rattle.writer.specs.Write.{binding_words, words_needed, written_of}
-use Rattle.writer.specs.declared.Written.TheVariants as written
 use Rattle.writer.proofs.Writing.{bindings_length}
-use Rattle.choice.specs.Choose.{Choice, Mapped, Unmappable}
 use Rattle.mapper.specs.Mapping.{rules_for, choice_of, chosen_words, answer_of}
 use Rattle.mapper.specs.Mapping as mapper
 use Rattle.mapper.proofs.Answering.{sources_length}
 use Rattle.checker.specs.Check.{Checks}
-use Rattle.checker.specs.declared.Checked.{Checked}
 use Rattle.soundness.specs.Sound.{glue_on}
 use Rattle.bench.specs.Calls.{sound_bench, bindings_on, opened, price_of, unbound_on, mapping_on, finish_written, finish_of}
 use Rattle.bench.specs.Calls as bench
@@ -85,12 +82,12 @@ pub prices_the_glue : (jw mw : List ℕ) (job : Job) (m : Mapping) → Fitting j
 unfolding pricing_of pair_of
 prices_the_glue jw mw job m q =
     rw q.job_well_formed
-    (rw q.mapping_well_formed (ap (λ (x : Fit). pricer.paper_of (counted x (glue_of job (bindings_of mw m)))) q.fits))
+    (rw q.mapping_well_formed (ap (λ (x : Result ⊤ Refusal). pricer.paper_of (counted x (glue_of job (bindings_of mw m)))) q.fits))
 
 -- ---- the mapper, over a job's words and lent words
 
 -- a choice was made, so each source has a usable rule
-pub chosen_each : (ws : List ℕ) (job : Job) → WellFormedJob ws job → (bound : List ℕ) → choice_of ws job ≡ Mapped bound
+pub chosen_each : (ws : List ℕ) (job : Job) → WellFormedJob ws job → (bound : List ℕ) → choice_of ws job ≡ Ok bound
     → (k : ℕ) → k < job.sources → ServedAt ws job k
 chosen_each ws job e bound c k h =
     let size = sources_length ws job e in
@@ -119,9 +116,9 @@ module _ (ws lent : List ℕ) where
       → (place : ℕ) × (mapper.paper_of (answer_of ws lent) ≡ refused 12 place)
   unmappable_is_refused job e k h unserved = by_choice (choice_of ws job) refl
     where
-      by_choice : (c : Choice) → choice_of ws job ≡ c → (place : ℕ) × (mapper.paper_of (answer_of ws lent) ≡ refused 12 place)
-      by_choice (Mapped bound) c = absurd (unserved (chosen_each ws job e bound c k h))
-      by_choice (Unmappable place) c = (place, unmappable_answer ws lent job e place c)
+      by_choice : (c : Result (List ℕ) ℕ) → choice_of ws job ≡ c → (place : ℕ) × (mapper.paper_of (answer_of ws lent) ≡ refused 12 place)
+      by_choice (Ok bound) c = absurd (unserved (chosen_each ws job e bound c k h))
+      by_choice (Err place) c = (place, unmappable_answer ws lent job e place c)
 
   -- "Header bit 7 of a job .. places the book after the job's own rules; the mapper's choice and refusal 12 then range over both": with it, a
   -- source for which the book has a rule from scratch or from a target of the job is never the one that 12 names, at any width.
@@ -134,7 +131,7 @@ module _ (ws lent : List ℕ) where
       low.unserved (subst (λ (f : ℕ). Served (terms_of ws job) f (rules_for ws job)) (sym low.is_place) (book-serves ws job e asked k b))
     where
       read_once : (other : Job) → WellFormedJob ws other → other ≡ job
-      read_once other u = let z : Accepted other ≡ Accepted job = sym u ∙ e in cc
+      read_once other u = let z : Ok other ≡ Ok job = sym u ∙ e in cc
 
   module _ (m : Maps ws lent) where
     -- each chosen rule is a rule of the job, usable, and no usable rule gives less at its turn, none earlier gives as little
@@ -156,7 +153,7 @@ module _ (ws lent : List ℕ) where
 -- ---- the checker
 
 -- "9. A source without a binding; place: lowest such function."
-pub names-the_lowest_unbound : (jw mw : List ℕ) (r : Checked) → Checks jw mw r → (job : Job) (m : Mapping) → Fitting jw mw job m
+pub names-the_lowest_unbound : (jw mw : List ℕ) (r : Result ⊤ CheckError) → Checks jw mw r → (job : Job) (m : Mapping) → Fitting jw mw job m
     → (i : ℕ) → i < job.sources → (Bound mw m (source_at jw i) → ⊥) → NamesUnbound jw mw job m r
 names-the_lowest_unbound jw mw r answer job m fits i h unbound = unbound_whatever_the_bindings jw mw r answer job m fits i h unbound
 
@@ -181,7 +178,7 @@ module _ (b : Bench) (h : Shaped b) where
       other n i apart e = absurd (apart (ap (λ (x : Paper). x.number) e))
 
       written_or_short : (c : Bool)
-          → bench.paper_of (finish_written (if c then written.Refused (refusal 23 (words_needed b.tables.nsources)) else written.Words (words_needed b.tables.nsources)))
+          → bench.paper_of (finish_written (if c then Err (refusal 23 (words_needed b.tables.nsources)) else Ok (words_needed b.tables.nsources)))
           ≡ refused 22 place
           → LowestUnbound b place
       written_or_short true e = other 23 (words_needed b.tables.nsources) (λ z. omega arith) e

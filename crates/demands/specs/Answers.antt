@@ -1,24 +1,17 @@
 -- The words in which demand 1 is said: "A job, mapping, recipe or bench handed in is accepted, or refused with one number of document 01
 -- and its place."
-use Rattle.std.specs.Prelude.{ℕ, ◌≡◌, Bool, true, false, ◌||◌, List, [], ◌∷◌, ◌++◌, eqb, if◌then◌else◌}
+use Rattle.std.specs.Prelude.{ℕ, ◌≡◌, Bool, true, false, ◌||◌, List, [], ◌∷◌, ◌++◌, eqb, if◌then◌else◌, Result, Ok, Err, ⊤}
 use Rattle.words.specs.Paper.{Paper, no_refusal}
-use Rattle.alu.specs.declared.Evaluation.{Evaluation}
-use Rattle.alu.specs.declared.Evaluation.TheVariants as evaluation
+use Rattle.bits.specs.declared.Ports.{Ports}
+use Rattle.checker.specs.declared.CheckError.{CheckError}
+use Rattle.fitting.specs.declared.PairError.{PairError}
+use Rattle.reader.specs.declared.Job.{Job}
+use Rattle.reader.specs.declared.Mapping.{Mapping}
+use Rattle.verdict.specs.declared.Verdict.{Verdict}
+use Rattle.words.specs.declared.Refusal.{Refusal}
 use Rattle.verdict.specs.declared.Verdict.TheVariants as verdict
-use Rattle.verdict.specs.declared.Judgement.{Judgement}
-use Rattle.verdict.specs.declared.Judgement.TheVariants as judgement
-use Rattle.reader.specs.declared.JobRead.{JobRead}
-use Rattle.reader.specs.declared.JobRead.TheVariants as job
-use Rattle.reader.specs.declared.MappingRead.{MappingRead}
-use Rattle.reader.specs.declared.MappingRead.TheVariants as mapping
-use Rattle.pricer.specs.declared.Priced.{Priced}
-use Rattle.pricer.specs.declared.Priced.TheVariants as priced
-use Rattle.writer.specs.declared.Written.{Written}
-use Rattle.writer.specs.declared.Written.TheVariants as written
-use Rattle.mapper.specs.declared.Answer as mapper
-use Rattle.mapper.specs.declared.Answer.TheVariants as mapped
-use Rattle.checker.specs.declared.Checked.{Checked}
-use Rattle.checker.specs.declared.Checked.TheVariants as checked
+use Rattle.fitting.specs.declared.PairError.TheVariants as priced
+use Rattle.checker.specs.declared.CheckError.TheVariants as checked
 use Rattle.bench.specs.declared.Answer as bench
 use Rattle.bench.specs.declared.Answer.TheVariants as call
 
@@ -76,45 +69,12 @@ bench_price_numbers = 20 ∷ []
 abbrev pub finish_numbers : List ℕ
 finish_numbers = 20 ∷ 22 ∷ 23 ∷ []
 
--- ---- which answers accept
+-- ---- which answers accept: each that is `Ok`, but for a judgement and the bench's calls
 
-abbrev pub evaluate_accepts : Evaluation → Bool
-evaluate_accepts (evaluation.Shown p) = true
-evaluate_accepts (evaluation.Refused r) = false
-
-abbrev pub judge_accepts : Judgement → Bool
-judge_accepts (judgement.Decided verdict.Right) = true
-judge_accepts (judgement.Decided (verdict.Wrong v)) = false
-judge_accepts (judgement.Refused r) = false
-
-abbrev pub job_accepts : JobRead → Bool
-job_accepts (job.Accepted j) = true
-job_accepts (job.Refused r) = false
-
-abbrev pub mapping_accepts : MappingRead → Bool
-mapping_accepts (mapping.Accepted m) = true
-mapping_accepts (mapping.Refused r) = false
-
-abbrev pub price_accepts : Priced → Bool
-price_accepts (priced.Count n) = true
-price_accepts (priced.JobRefused r) = false
-price_accepts (priced.MappingRefused r) = false
-price_accepts (priced.Refused r) = false
-
-abbrev pub write_accepts : Written → Bool
-write_accepts (written.Words n) = true
-write_accepts (written.Refused r) = false
-
-abbrev pub map_accepts : mapper.Answer → Bool
-map_accepts (mapped.Mapping n) = true
-map_accepts (mapped.Refused r) = false
-
-abbrev pub check_accepts : Checked → Bool
-check_accepts checked.Accepted = true
-check_accepts (checked.JobRefused r) = false
-check_accepts (checked.MappingRefused r) = false
-check_accepts (checked.Refused r) = false
-check_accepts (checked.Wrong v) = false
+abbrev pub judge_accepts : Result Verdict Refusal → Bool
+judge_accepts (Ok verdict.Right) = true
+judge_accepts (Ok (verdict.Wrong v)) = false
+judge_accepts (Err r) = false
 
 -- of the bench's calls
 abbrev pub call_accepts : bench.Answer → Bool

@@ -1,5 +1,5 @@
 -- The words in which the bench's promises are said: document 01, "Mapper and bench", and requests #102 and #103.
-use Rattle.std.specs.Prelude.{ℕ, ◌<◌, ◌≤◌, ◌≡◌, true, List, [], ◌∷◌, ◌++◌, length, take, drop, get_or}
+use Rattle.std.specs.Prelude.{ℕ, ◌<◌, ◌≤◌, ◌≡◌, true, List, [], ◌∷◌, ◌++◌, length, take, drop, get_or, Result, ⊤}
 use Rattle.words.specs.Field.{source_function}
 use Rattle.words.specs.Paper.{source_place, accepted, refused}
 use Rattle.recipe.specs.Fields.{source_of}
@@ -11,7 +11,7 @@ use Rattle.reader.specs.declared.Job.{Job}
 use Rattle.writer.specs.Write.{binding_words, words_needed}
 use Rattle.checker.specs.Check.{Checks}
 use Rattle.checker.specs.Check as checker
-use Rattle.checker.specs.declared.Checked.{Checked}
+use Rattle.checker.specs.declared.CheckError.{CheckError}
 use Rattle.soundness.specs.Sound.{nothing, sources_on, glue_on}
 use Rattle.bench.specs.Calls.{sound_bench, bindings_on, holding, opened, open_of, Binds, release_of, price_of, mapping_on, finish_of, lent_after_finish, paper_of}
 use Rattle.bench.specs.declared.Bench.{Bench}
@@ -41,7 +41,7 @@ pub record Finishes (ws : List ℕ) (job : Job) (b : Bench) (lent : List ℕ) : 
   pub answer : paper_of (finish_of b lent).answer ≡ accepted (words_needed job.sources ∷ [])
   pub bench_after : (finish_of b lent).bench ≡ b
   pub lent_after : lent_after_finish b lent ≡ mapping_on b ++ drop (words_needed job.sources) lent
-  pub accepted_with_job : (r : Checked) → Checks ws (mapping_on b) r → checker.paper_of r ≡ accepted []
+  pub accepted_with_job : (r : Result ⊤ CheckError) → Checks ws (mapping_on b) r → checker.paper_of r ≡ accepted []
 
 -- the function of a bench's k-th source, and what is bound to it
 abbrev pub function_on : Bench → ℕ → ℕ

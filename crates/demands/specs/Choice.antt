@@ -1,7 +1,7 @@
 -- The words in which the mapper's promises are said: document 01, "Mapper and bench". "A rule is usable if its target is 0 or in the
 -- job and its recipe is right. Sources are taken in order; each gets the usable rule that makes the glue of the bindings so far least,
 -- the earlier rule on equal glue."
-use Rattle.std.specs.Prelude.{ℕ, ◌<◌, ◌≤◌, ◌≡◌, true, List, [], ◌∷◌, ◌++◌, length, take, drop, get_or}
+use Rattle.std.specs.Prelude.{ℕ, ◌<◌, ◌≤◌, ◌≡◌, true, List, [], ◌∷◌, ◌++◌, length, take, drop, get_or, Ok}
 use Rattle.words.specs.Paper.{source_place, accepted}
 use Rattle.recipe.specs.Fields.{source_of}
 use Rattle.book.specs.Book.{book}
@@ -11,7 +11,7 @@ use Rattle.table.specs.Parts.{Terms, terms_of}
 use Rattle.table.specs.Table.{has_target}
 use Rattle.writer.specs.Write.{words_needed}
 use Rattle.best.specs.Best.{serves}
-use Rattle.choice.specs.Choose.{Mapped, with_rule}
+use Rattle.choice.specs.Choose.{with_rule}
 use Rattle.mapper.specs.Mapping.{rules_for, choice_of, chosen_words, answer_of, lent_after_map, paper_of}
 use Rattle.demands.specs.Mapped.{source_at}
 
@@ -70,7 +70,7 @@ pub record Maps (ws lent : List ℕ) : Type 0 where
   pub job : Job
   pub well_formed : WellFormedJob ws job
   pub bound : List ℕ
-  pub choice : choice_of ws job ≡ Mapped bound
+  pub choice : choice_of ws job ≡ Ok bound
   pub enough : words_needed job.sources ≤ length lent
   pub answer : paper_of (answer_of ws lent) ≡ accepted (words_needed job.sources ∷ [])
   pub lent_after : lent_after_map ws lent ≡ chosen_words job bound ++ drop (words_needed job.sources) lent

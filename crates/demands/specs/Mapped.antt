@@ -1,7 +1,7 @@
 -- The words in which the checker's promises are said: document 01, "What a binding shows". "A job or mapping is well formed if none
 -- of 1 to 6 below holds of its words. A mapping fits its job if neither 7 nor 8 holds, is complete if 9 does not, and rightly priced
 -- if 11 does not."
-use Rattle.std.specs.Prelude.{ℕ, ◌+◌, ◌<◌, ◌≤◌, ◌≡◌, true, List, [], ◌∷◌, get_or}
+use Rattle.std.specs.Prelude.{ℕ, ◌+◌, ◌<◌, ◌≤◌, ◌≡◌, true, List, [], ◌∷◌, get_or, Result, Ok, ⊤}
 use Rattle.words.specs.Field.{kind_of, source_function}
 use Rattle.words.specs.Kinds.{is_recipe}
 use Rattle.words.specs.Paper.{no_refusal, source_place, refused, refused_with}
@@ -21,10 +21,9 @@ use Rattle.reader.specs.declared.Mapping.{Mapping}
 use Rattle.table.specs.Parts.{bindings_of, Terms, terms_of}
 use Rattle.claims.specs.Claim.{claim_in}
 use Rattle.fitting.specs.Fitting.{fit_of}
-use Rattle.fitting.specs.declared.Fit.TheVariants.{Fits}
+use Rattle.checker.specs.declared.CheckError.{CheckError}
 use Rattle.pricer.specs.Pricing.{glue_of}
 use Rattle.checker.specs.Check.{paper_of}
-use Rattle.checker.specs.declared.Checked.{Checked}
 
 -- a word and a width that the judge is to accept: a rule or a binding that passes 3, 5 and 6, a width, and the recipe right at it
 pub record RightRecipe (w n : ℕ) : Type 0 where
@@ -48,7 +47,7 @@ claim_at t mapping_words k = claim_in t.sources t.targets (binding_at mapping_wo
 pub record Fitting (job_words mapping_words : List ℕ) (job : Job) (mapping : Mapping) : Type 0 where
   pub job_well_formed : WellFormedJob job_words job
   pub mapping_well_formed : WellFormedMapping mapping_words mapping
-  pub fits : fit_of (terms_of job_words job) mapping (bindings_of mapping_words mapping) ≡ Fits
+  pub fits : fit_of (terms_of job_words job) mapping (bindings_of mapping_words mapping) ≡ Ok tt
 
 -- some binding has the function as its source
 abbrev pub Bound : List ℕ → Mapping → ℕ → Type 0
@@ -74,7 +73,7 @@ pub record RightlyMapped (job_words mapping_words : List ℕ) : Type 0 where
   pub rightly_priced : glue_of job (bindings_of mapping_words mapping) ≡ mapping.glue
 
 -- the answer is 9 at the lowest source without a binding
-pub record NamesUnbound (job_words mapping_words : List ℕ) (job : Job) (mapping : Mapping) (r : Checked) : Type 0 where
+pub record NamesUnbound (job_words mapping_words : List ℕ) (job : Job) (mapping : Mapping) (r : Result ⊤ CheckError) : Type 0 where
   pub at : ℕ
   pub within : at < job.sources
   pub unbound : Bound mapping_words mapping (source_at job_words at) → ⊥
@@ -82,7 +81,7 @@ pub record NamesUnbound (job_words mapping_words : List ℕ) (job : Job) (mappin
   pub answer : paper_of r ≡ refused 9 (source_place (source_at job_words at))
 
 -- the answer is 10 at the lowest function whose binding is wrong, with operands in range and the lowest port that differs there
-pub record NamesWrong (t : Terms) (mapping_words : List ℕ) (mapping : Mapping) (r : Checked) : Type 0 where
+pub record NamesWrong (t : Terms) (mapping_words : List ℕ) (mapping : Mapping) (r : Result ⊤ CheckError) : Type 0 where
   pub at : ℕ
   pub within : at < mapping.bindings
   pub wrong : RightAt t mapping_words at → ⊥

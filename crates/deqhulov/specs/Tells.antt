@@ -1,20 +1,21 @@
 -- What the exported calls tell their caller: an answer in document 01's numbers.
-use Rattle.std.specs.Prelude.{ℕ, List}
+use Rattle.std.specs.Prelude.{ℕ, List, Result, ⊤}
 use Rattle.verdict.specs.Verdicts.{Judged, judgement_paper}
-use Rattle.verdict.specs.declared.Judgement.{Judgement}
+use Rattle.checker.specs.declared.CheckError.{CheckError}
+use Rattle.verdict.specs.declared.Verdict.{Verdict}
+use Rattle.words.specs.declared.Refusal.{Refusal}
 use Rattle.checker.specs.Check.{Checks}
 use Rattle.checker.specs.Check as checker
-use Rattle.checker.specs.declared.Checked.{Checked}
 use Rattle.report.specs.Told.{Told}
 
 -- the checker's answer to a job and a mapping is told
 pub record TellsCheck (job mapping : List ℕ) (number place : ℕ) (out after : List ℕ) : Type 0 where
-  pub answer : Checked
+  pub answer : Result ⊤ CheckError
   pub checks : Checks job mapping answer
   pub told : Told (checker.paper_of answer) number place out after
 
 -- the judgement on a recipe word at a width is told
 pub record TellsJudgement (word width number place : ℕ) (out after : List ℕ) : Type 0 where
-  pub answer : Judgement
+  pub answer : Result Verdict Refusal
   pub judged : Judged word width answer
   pub told : Told (judgement_paper answer) number place out after

@@ -7,55 +7,55 @@ ghost use Rattle.mapper.specs.Mapping as M;
 ghost use Rattle.checker.specs.Check as C;
 ghost use Rattle.report.specs.Told as D;
 
-use alu::Evaluation;
-use checker::Checked;
-use mapper::Answer;
-use pricer::Priced;
+use bits::Ports;
+use checker::CheckError;
+use fitting::PairError;
 use report::Report;
-use verdict::{Judgement, Verdict};
+use verdict::Verdict;
+use words::Refusal;
 
 // The evaluator's answer.
-pub fn of_evaluation(evaluation: Evaluation) -> Report
+pub fn of_evaluation(evaluation: Result<Ports, Refusal>) -> Report
     ensures { result ≡ D.report_of (E.paper_of evaluation) }
 {
     match evaluation {
-        Evaluation::Shown(ports) => report::shown(ports),
-        Evaluation::Refused(refusal) => report::refused(refusal),
+        Ok(ports) => report::shown(ports),
+        Err(refusal) => report::refused(refusal),
     }
 }
 
 // The pricer's answer.
-pub fn of_price(priced: Priced) -> Report
+pub fn of_price(priced: Result<u32, PairError>) -> Report
     ensures { result ≡ D.report_of (P.paper_of priced) }
 {
     match priced {
-        Priced::Count(count) => report::with_value(report::NONE, count as u64),
-        Priced::JobRefused(refusal) => report::with_value(refusal, 0),
-        Priced::MappingRefused(refusal) => report::with_value(refusal, 1),
-        Priced::Refused(refusal) => report::refused(refusal),
+        Ok(count) => report::with_value(report::NONE, count as u64),
+        Err(PairError::JobRefused(refusal)) => report::with_value(refusal, 0),
+        Err(PairError::MappingRefused(refusal)) => report::with_value(refusal, 1),
+        Err(PairError::Refused(refusal)) => report::refused(refusal),
     }
 }
 
 // The mapper's answer.
-pub fn of_mapping(answer: Answer) -> Report
+pub fn of_mapping(answer: Result<usize, Refusal>) -> Report
     ensures { result ≡ D.report_of (M.paper_of answer) }
 {
     match answer {
-        Answer::Mapping(words) => report::with_value(report::NONE, words as u64),
-        Answer::Refused(refusal) => report::refused(refusal),
+        Ok(words) => report::with_value(report::NONE, words as u64),
+        Err(refusal) => report::refused(refusal),
     }
 }
 
 // The checker's answer.
-pub fn of_check(checked: Checked) -> Report
+pub fn of_check(checked: Result<(), CheckError>) -> Report
     ensures { result ≡ D.report_of (C.paper_of checked) }
 {
     match checked {
-        Checked::Accepted => report::refused(report::NONE),
-        Checked::JobRefused(refusal) => report::with_value(refusal, 0),
-        Checked::MappingRefused(refusal) => report::with_value(refusal, 1),
-        Checked::Refused(refusal) => report::refused(refusal),
-        Checked::Wrong(witness) => report::wrong(witness),
+        Ok(()) => report::refused(report::NONE),
+        Err(CheckError::JobRefused(refusal)) => report::with_value(refusal, 0),
+        Err(CheckError::MappingRefused(refusal)) => report::with_value(refusal, 1),
+        Err(CheckError::Refused(refusal)) => report::refused(refusal),
+        Err(CheckError::Wrong(witness)) => report::wrong(witness),
     }
 }
 
@@ -69,11 +69,11 @@ fn of_verdict(verdict: Verdict) -> Report
 }
 
 // The judgement on a recipe.
-pub fn of_judgement(judgement: Judgement) -> Report
+pub fn of_judgement(judgement: Result<Verdict, Refusal>) -> Report
     ensures { result ≡ D.report_of (J.judgement_paper judgement) }
 {
     match judgement {
-        Judgement::Decided(verdict) => of_verdict(verdict),
-        Judgement::Refused(refusal) => report::refused(refusal),
+        Ok(verdict) => of_verdict(verdict),
+        Err(refusal) => report::refused(refusal),
     }
 }

@@ -9,19 +9,19 @@ use borrow.Author.Tests.{le-leb, lt-leb, ltb-true, ltb-false}
 use lib.Dec.{ltb}
 use lib.ListN.{length, take}
 use lib.Seq.{take-append_seam}
-use Rattle.std.specs.Prelude.{if◌then◌else◌}
+use Rattle.std.specs.Prelude.{Some, if◌then◌else◌}
+use Rattle.std.specs.Option.{option_and_then}
 use Rattle.text.specs.Text.{bytes, glyph, digits, hexadecimal}
 use Rattle.text.proofs.Putting.{digits_length}
-use Rattle.hexadecimal.specs.Hex.{digit_of, between, ended, digits_left, word_in}
+use Rattle.hexadecimal.specs.Hex.{digit_of, between, ended, with_digit, digits_left, last_word, word_in}
 use Rattle.hexadecimal.specs.declared.Hex.{Hex}
-use Rattle.hexadecimal.specs.declared.Step.TheVariants.{Word}
 use Rattle.describe.specs.Describe.{meaning_text, word_line}
 
-low_digit : (d : ℕ) → d < 10 → digit_of (48 + d) ≡ d
+low_digit : (d : ℕ) → d < 10 → digit_of (48 + d) ≡ Some d
 unfolding digit_of
-low_digit d h = rw (le-leb 48 (48 + d) (omega arith), le-leb (48 + d) 57 (omega arith)) (omega arith)
+low_digit d h = rw (le-leb 48 (48 + d) (omega arith), le-leb (48 + d) 57 (omega arith)) (ap Some (omega arith))
 
-high_digit : (d : ℕ) → 10 ≤ d → d < 16 → digit_of (55 + d) ≡ d
+high_digit : (d : ℕ) → 10 ≤ d → d < 16 → digit_of (55 + d) ≡ Some d
 unfolding digit_of
 high_digit d h l =
     rw (
@@ -29,12 +29,12 @@ high_digit d h l =
       lt-leb (55 + d) 57 (omega arith),
       le-leb 65 (55 + d) (omega arith),
       le-leb (55 + d) 70 (omega arith),
-    ) (omega arith)
+    ) (ap Some (omega arith))
 
-glyph-read : (d : ℕ) → d < 16 → digit_of (glyph d) ≡ d
+glyph-read : (d : ℕ) → d < 16 → digit_of (glyph d) ≡ Some d
 glyph-read d l = by_size (ltb d 10) refl
   where
-    by_size : (b : Bool) → ltb d 10 ≡ b → digit_of (if b then 48 + d else 55 + d) ≡ d
+    by_size : (b : Bool) → ltb d 10 ≡ b → digit_of (if b then 48 + d else 55 + d) ≡ Some d
     by_size true e = low_digit d (ltb-true d 10 e)
     by_size false e = high_digit d (ltb-false d 10 e) l
 
@@ -45,10 +45,10 @@ so_far k n = record { digits = k; value = n; comment = false }
 -- one digit more
 more_read : (k n d : ℕ) (rest : List ℕ) → k < 8 → n < 2 ^ 28 → d < 16
     → digits_left (so_far k n) (glyph d ∷ rest) ≡ digits_left (so_far (k + 1) (n * 16 + d)) rest
-unfolding digits_left
+unfolding digits_left with_digit
 more_read k n d rest h l m =
     let e : n % 2 ^ 28 * 16 + d ≡ n * 16 + d = omega arith in
-    rw (lt-leb 8 k h, glyph-read d m, lt-leb 16 d m) (ap (λ (v : ℕ). digits_left (so_far (k + 1) v) rest) e)
+    rw (lt-leb 8 k h, glyph-read d m) (ap (λ (v : ℕ). digits_left (so_far (k + 1) v) rest) e)
 
 digits_read : (k n : ℕ) (rest : List ℕ) → k ≤ 8 → n < 16 ^ k → n < 2 ^ 32
     → digits_left (between false) (digits 16 k n ++ rest) ≡ digits_left (so_far k n) rest
@@ -73,6 +73,6 @@ line_digits : (w : ℕ) → take 8 (word_line w) ≡ digits 16 8 w
 unfolding word_line hexadecimal
 line_digits w = first_eight (digits 16 8 w) (bytes " ") (meaning_text w) (bytes "\n") (digits_length 16 8 w)
 
-pub read_back : (w : ℕ) → w < 2 ^ 32 → word_in (take 8 (word_line w)) ≡ Word w (between false)
+pub read_back : (w : ℕ) → w < 2 ^ 32 → word_in (take 8 (word_line w)) ≡ Some w
 unfolding digits_left ended
-read_back w h = ap word_in (line_digits w ∙ sym (append-nil (digits 16 8 w))) ∙ digits_read 8 w [] (omega arith) h h
+read_back w h = ap word_in (line_digits w ∙ sym (append-nil (digits 16 8 w))) ∙ ap (option_and_then last_word) (digits_read 8 w [] (omega arith) h h)

@@ -1,8 +1,7 @@
 -- The line of a word, as show_words prints it: its eight digits, and what it is in document 01's words ("Words").
-use Rattle.std.specs.Prelude.{ℕ, Bool, false, not, List, [], ◌++◌, eqb, leb, ltb, if◌then◌else◌}
+use Rattle.std.specs.Prelude.{ℕ, Option, None, Some, is_some, Bool, ◌&&◌, not, List, [], ◌++◌, eqb, leb, ltb, if◌then◌else◌}
 use Rattle.words.specs.Field.{field, kind_of, content_of, source_function, target_function}
 use Rattle.words.specs.Kinds.{HEADER, PRICES, SOURCE, TARGET, RULE, GLUE, is_recipe}
-use Rattle.words.specs.Paper.{no_refusal}
 use Rattle.recipe.specs.Fields.{source_of, target_of, from_scratch, vector_of, fields_of}
 use Rattle.recipe.specs.declared.Fields.{Fields}
 use Rattle.layout.specs.Layout.{reads_undriven, shows_other}
@@ -74,28 +73,29 @@ word_text w =
 
 -- 1 to 7
 unfoldable pub is_kind : ℕ → Bool
-is_kind kind = if ltb kind HEADER then false else leb kind GLUE
+is_kind kind = leb HEADER kind && leb kind GLUE
 
 -- a kind that no word has: 2; a word against the layout: 3
-unfoldable pub layout_fault : ℕ → ℕ
-layout_fault w = if not (is_kind (kind_of w)) then 2 else if not (fits AsJob w) then 3 else no_refusal
+unfoldable pub layout_fault : ℕ → Option ℕ
+layout_fault w = if not (is_kind (kind_of w)) then Some 2 else if not (fits AsJob w) then Some 3 else None
 
 -- of a recipe that the layout allows: 5 and 6
-unfoldable pub output_fault : ℕ → ℕ
+unfoldable pub output_fault : ℕ → Option ℕ
 output_fault w =
-    if not (is_recipe (kind_of w)) then no_refusal
-    else if reads_undriven w then 5
-    else if shows_other w then 6
-    else no_refusal
+    if not (is_recipe (kind_of w)) then None
+    else if reads_undriven w then Some 5
+    else if shows_other w then Some 6
+    else None
 
 -- a refusal behind what stands before it, or nothing
-unfoldable pub fault_text : List ℕ → ℕ → List ℕ
-fault_text before fault = if eqb fault no_refusal then [] else labelled (before ++ bytes "REFUSED ") fault
+unfoldable pub fault_text : List ℕ → Option ℕ → List ℕ
+fault_text before None = []
+fault_text before (Some number) = labelled (before ++ bytes "REFUSED ") number
 
 -- a word that the layout does not allow has no meaning; one that is refused with 5 or 6 has one
 unfoldable pub meaning_text : ℕ → List ℕ
 meaning_text w =
-    if not (eqb (layout_fault w) no_refusal) then fault_text [] (layout_fault w)
+    if is_some (layout_fault w) then fault_text [] (layout_fault w)
     else word_text w ++ fault_text (bytes ", ") (output_fault w)
 
 unfoldable pub word_line : ℕ → List ℕ

@@ -20,7 +20,7 @@ fn put_meaning(word: u32, out: &mut [u8], at: usize) -> usize
     ensures text { P.Puts out.old at (D.meaning_text word) out.new result }
 {
     let refusal = fault::layout_fault(word);
-    if refusal != words::NO_REFUSAL {
+    if refusal.is_some() {
         return fault::put_fault(b"", refusal, out, at);
     }
     let end = kind::put_kind(word, out, at);

@@ -1,6 +1,6 @@
 -- The searches of entries: the entry of a function, and the first empty one.
 use mathlib.Core.Path.{◌≡◌, sym, ◌∙◌}
-use mathlib.Core.Bool.{Bool, true, false, false≢true}
+use mathlib.Core.Bool.{Bool, true, false, ◌||◌, false≢true}
 use mathlib.Core.List.{List, [], ◌∷◌}
 use Prim.Native.Nat.{ℕ, suc, ◌+◌, ◌≤◌, ◌<◌}
 use native.Mathlib.Decide.{dec_lt}
@@ -18,9 +18,9 @@ use Rattle.entries.specs.Entries.{entry_of, is_bound, first_empty}
 -- ---- the entry of a function
 
 module _ (ss : List ℕ) (f i : ℕ) (e : i + entry_of (drop i ss) f ≡ entry_of ss f) where
-  pub no_entry : length ss ≤ i → i ≡ entry_of ss f
+  pub no_entry : length ss ≤ i → i ≤ length ss → length ss ≡ entry_of ss f
   unfolding entry_of
-  no_entry h = let z : i + 0 ≡ entry_of ss f = rw (drop_of_length-le ss h) at e in omega arith
+  no_entry h l = let z : i + 0 ≡ entry_of ss f = rw (drop_of_length-le ss h) at e in omega arith
 
   module _ (h : i < length ss) (p : ℕ) (ep : p ≡ source_function (get_or ss i 0)) where
     next_entry : i + (if eqb (source_function (get_or ss i 0)) f then 0 else entry_of (drop (i + 1) ss) f + 1) ≡ entry_of ss f
@@ -49,7 +49,7 @@ unfolding lists_source entry_of
 lists_entry [] f e = absurd (false≢true e)
 lists_entry (s ∷ ss) f e = go (eqb (source_function s) f) (lists_entry ss f) e
   where
-    go : (b : Bool) → (lists_source ss f ≡ true → entry_of ss f < length ss) → (if b then true else lists_source ss f) ≡ true
+    go : (b : Bool) → (lists_source ss f ≡ true → entry_of ss f < length ss) → b || lists_source ss f ≡ true
         → (if b then 0 else entry_of ss f + 1) < suc (length ss)
     go true h u = omega arith
     go false h u = omega (arith, h u)

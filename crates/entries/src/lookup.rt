@@ -8,14 +8,12 @@ use soundness::NOTHING;
 pub fn entry_of(sources: &[u32], function: u32) -> usize
     ensures { result ≡ E.entry_of sources.now function }
 {
-    let mut i = 0;
-    while i < sources.len() {
-        if words::source_function(sources[i]) == function {
+    for (i, source) in sources.iter().enumerate() {
+        if words::source_function(*source) == function {
             return i;
         }
-        i += 1;
     }
-    i
+    sources.len()
 }
 
 // The function of the first source with nothing bound, or NO_FUNCTION.
@@ -23,12 +21,10 @@ pub fn first_empty(sources: &[u32], bound: &[u32]) -> u32
     requires { length sources.now ≤ length bound.now }
     ensures { result ≡ E.first_empty sources.now bound.now }
 {
-    let mut i = 0;
-    while i < sources.len() {
+    for (i, source) in sources.iter().enumerate() {
         if bound[i] == NOTHING {
-            return words::source_function(sources[i]);
+            return words::source_function(*source);
         }
-        i += 1;
     }
     alu::NO_FUNCTION
 }

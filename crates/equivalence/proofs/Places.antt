@@ -1,21 +1,20 @@
 -- The tables of what happens at one place: filled from their start, and read by state and pair of bits.
-use mathlib.Core.Path.{◌≡◌, refl, sym, ap, ◌∙◌}
+use mathlib.Core.Path.{◌≡◌, ap, ◌∙◌}
 use Prim.Native.Nat.{ℕ, ◌+◌, ◌*◌, ◌/◌, ◌%◌, ◌<◌}
 use native.Mathlib.Omega.{arith}
 use native.Mathlib.Decide.{dec_lt}
-use mathlib.Core.Bool.{Bool, true, false, not}
+use mathlib.Core.Bool.{Bool, true, false}
 use mathlib.Core.List.{List}
 use lib.Dec.{eqb}
 use lib.ListN.{get_or, length, set}
 use lib.Seq.{get_or-set_same, get_or-set_other}
-use borrow.Author.Tests.{not-true, not-false}
 use Rattle.binding.specs.declared.Side.{Side}
 use Rattle.output.specs.declared.Outputs.{Outputs}
 use Rattle.binding.specs.declared.Recipe.{Recipe}
-use Rattle.automaton.specs.Machine.{cell_of, next_by, alike_by, last_by}
+use Rattle.automaton.specs.Machine.{cell_of}
 use Rattle.automaton.specs.declared.Cell.{Cell}
 use Rattle.automaton.specs.declared.State.{State}
-use Rattle.equivalence.specs.Sets.{index_of, state_of, cell_at, no_cell, Cells, move_by, top_by, slot, Table}
+use Rattle.equivalence.specs.Sets.{state_of, cell_at, no_cell, Cells, slot, Table}
 
 pub filled : {A : Type 0} (d : A) (F : ℕ → A) (l : List A) (i : ℕ) (e : A) → i < length l → e ≡ F i
     → ((k : ℕ) → k < i → get_or l k d ≡ F k) → (k : ℕ) → k < i + 1 → get_or (set l i e) k d ≡ F k
@@ -102,18 +101,3 @@ pub tabled_from : (f : Outputs → Cell → Cell → Bool → Bool → ℕ) (s :
     → Table (by_cells f s t) table
 tabled_from f s t source target table p q known =
     tabled (by_cells f s t) table (λ k h. known k h ∙ from_cells_lem k f s t source target p q)
-
--- ---- one entry
-
-pub moved : (o : Outputs) (p q : Cell) (any all b : Bool) (a : State) (m : ℕ) → b ≡ alike_by o p q → not b ≡ false → a ≡ next_by p q any all → m ≡ index_of a
-    → m ≡ move_by o p q any all
-moved o p q any all b a m e u v w = w ∙ ap index_of v ∙ sym (rw (sym e ∙ not-false b u) refl)
-
-pub differed : (o : Outputs) (p q : Cell) (any all b : Bool) → b ≡ alike_by o p q → not b ≡ true → 64 ≡ move_by o p q any all
-differed o p q any all b e u = rw (sym e ∙ not-true b u) refl
-
-pub top-agrees : (o : Outputs) (p q : Cell) (any all b : Bool) → b ≡ last_by o p q any all → b ≡ true → 0 ≡ top_by o p q any all
-top-agrees o p q any all b e u = rw (sym e ∙ u) refl
-
-pub top-differs : (o : Outputs) (p q : Cell) (any all b : Bool) → b ≡ last_by o p q any all → b ≡ false → 64 ≡ top_by o p q any all
-top-differs o p q any all b e u = rw (sym e ∙ u) refl

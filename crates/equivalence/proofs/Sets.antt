@@ -1,7 +1,7 @@
 -- The sets of failing states: how a round makes one, that one which repeats stays, and that a state outside it agrees at all operands.
 use mathlib.Core.Path.{◌≡◌, refl, sym, ap, ap₂, ◌∙◌}
 use Prim.Native.Nat.{ℕ, zero, suc, ◌+◌, ◌-◌, ◌*◌, ◌/◌, ◌%◌, ◌^◌, ◌≤◌, ◌<◌}
-use native.Mathlib.Nat.{lt_of_lt_of_le, mod-eq_of_lt, zero-mul}
+use native.Mathlib.Nat.{lt_of_lt_of_le}
 use native.Mathlib.Numerals.{add-one}
 use native.Mathlib.Omega.{arith}
 use native.Mathlib.Decide.{dec_lt}
@@ -10,7 +10,7 @@ use mathlib.Core.List.{List, ◌∷◌}
 use lib.Dec.{eqb}
 use lib.ListN.{get_or, length}
 use lib.Pow.{pow_mono}
-use borrow.Author.Tests.{lt-leb, le-leb, lt-ltb, le-ltb}
+use borrow.Author.Tests.{lt-leb, lt-ltb, le-ltb}
 use Rattle.std.specs.Prelude.{if◌then◌else◌}
 use Rattle.bits.specs.Bits.{num, bit, word}
 use Rattle.bits.proofs.Words.{bit_word, word_lt}
@@ -23,32 +23,15 @@ use Rattle.equivalence.proofs.States.{index_lt, state_index}
 
 -- ---- an entry
 
-pub at_once : (set m : ℕ) → 64 ≤ m → true ≡ fails set m
-unfolding fails
-at_once set m h = rw (le-leb 64 m h) refl
-
 pub by_set : (set m : ℕ) → m < 64 → eqb (set / 2 ^ m % 2) 1 ≡ fails set m
 unfolding fails bit
 by_set set m h = rw (lt-leb 64 m h) refl
-
-pub some_of : (table : List ℕ) (set i : ℕ) (a b c d : Bool) → a ≡ fails set (get_or table (4 * i) 0) → b ≡ fails set (get_or table (4 * i + 1) 0)
-    → c ≡ fails set (get_or table (4 * i + 2) 0) → d ≡ fails set (get_or table (4 * i + 3) 0) → a || (b || (c || d)) ≡ some_fails table set i
-some_of table set i a b c d p q r u = ap₂ ◌||◌ p (ap₂ ◌||◌ q (ap₂ ◌||◌ r u))
 
 -- ---- a round
 
 pub bit-round : (table : List ℕ) (set i : ℕ) → i < 64 → bit (round table set) i ≡ some_fails table set i
 unfolding round
 bit-round table set i h = bit_word 64 (some_fails table set) i h
-
-pub placed_one : (b : Bool) (i : ℕ) → i < 64 → b ≡ true → 1 * 2 ^ i % 2 ^ 64 ≡ num b * 2 ^ i
-placed_one b i h e =
-    let p : 2 ^ i ≤ 2 ^ 63 = pow_mono {i = i} {j = 63} (omega arith) in
-    let q : 1 * 2 ^ i < 2 ^ 64 = omega arith in
-    mod-eq_of_lt q ∙ ap (λ (z : Bool). num z * 2 ^ i) (sym e)
-
-pub placed_none : (b : Bool) (i : ℕ) → b ≡ false → 0 ≡ num b * 2 ^ i
-placed_none b i e = sym (zero-mul (2 ^ i)) ∙ ap (λ (z : Bool). num z * 2 ^ i) (sym e)
 
 pub round-start : (table : List ℕ) (set : ℕ) → 0 ≡ word 0 (some_fails table set)
 unfolding word
@@ -63,9 +46,9 @@ module _ (table : List ℕ) (set w b i : ℕ) (x : Bool)
   pub round-fits : i < 64 → w + b < 2 ^ 64
   round-fits h = rw round-next (lt_of_lt_of_le (word_lt (i + 1) (some_fails table set)) (pow_mono {i = i + 1} {j = 64} (omega arith)))
 
-pub round-done : (table : List ℕ) (set w i : ℕ) → w ≡ word i (some_fails table set) → i ≤ 64 → 64 ≤ i → w ≡ round table set
+pub round-done : (table : List ℕ) (set w i : ℕ) → w ≡ word i (some_fails table set) → i ≡ 64 → w ≡ round table set
 unfolding round
-round-done table set w i e h g = let z : i ≡ 64 = omega arith in e ∙ ap (λ (k : ℕ). word k (some_fails table set)) z
+round-done table set w i e h = e ∙ ap (λ (k : ℕ). word k (some_fails table set)) h
 
 -- ---- the rounds
 

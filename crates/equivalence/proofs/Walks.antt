@@ -1,15 +1,15 @@
 -- The walk to operands at which a recipe fails: one place of it.
 use mathlib.Core.Path.{◌≡◌, refl, sym, ap, ap₂, ◌∙◌, subst}
-use Prim.Native.Nat.{ℕ, zero, suc, ◌+◌, ◌-◌, ◌*◌, ◌/◌, ◌%◌, ◌^◌, ◌≤◌, ◌<◌}
-use native.Mathlib.Nat.{pow-suc, lt_of_lt_of_le, pos_of_ne-zero}
+use Prim.Native.Nat.{ℕ, zero, suc, ◌+◌, ◌-◌, ◌*◌, ◌/◌, ◌%◌, ◌≤◌, ◌<◌}
+use native.Mathlib.Nat.{pow-suc, pos_of_ne-zero}
 use native.Mathlib.Omega.{arith}
 use native.Mathlib.Decide.{dec_lt}
 use mathlib.Core.Bool.{Bool, true, false, ◌&&◌, ◌||◌, true≢false}
 use mathlib.Core.List.{List}
 use lib.ListN.{get_or}
-use lib.Pow.{pow_pos, pow_mono}
+use lib.Pow.{pow_pos}
 use borrow.Author.Tests.{lt-ltb, le-ltb}
-use Rattle.std.specs.Prelude.{if◌then◌else◌}
+use Rattle.std.specs.Prelude.{Some, None, if◌then◌else◌}
 use Rattle.bits.specs.Bits.{num, bit}
 use Rattle.bits.proofs.Sums.{num-lt}
 use Rattle.bits.proofs.Words.{suc-sub_one}
@@ -17,9 +17,8 @@ use Rattle.binding.specs.declared.Side.{Side}
 use Rattle.binding.specs.declared.Recipe.{Recipe}
 use Rattle.automaton.specs.Machine.{next, alike, last, low_bit, agrees_from}
 use Rattle.automaton.specs.declared.State.{State}
-use Rattle.equivalence.specs.Sets.{index_of, state_of, move_of, top_of, slot, Table, fails, some_fails, failing, kept_at, Failing, Refuted, Stepped}
+use Rattle.equivalence.specs.Sets.{index_of, state_of, move_of, top_of, slot, Table, fails, some_fails, failing, kept_at, Failing, Refuted, Goes, Stepped}
 use Rattle.equivalence.specs.declared.witness.Step.{Step}
-use Rattle.equivalence.specs.declared.witness.Step.TheVariants.{Ends, Leads}
 use Rattle.equivalence.proofs.States.{eqb_num, index_lt, state_index}
 use Rattle.equivalence.proofs.Sets.{by_set, bit-round, failing-top, failing-next}
 
@@ -58,9 +57,6 @@ low_bit_lem x d l e = eqb_num ((d + 2 * l) % 2) x (omega (arith, num-lt x))
 
 low_rest : (x : Bool) (d l : ℕ) → d ≡ num x → (d + 2 * l) / 2 ≡ l
 low_rest x d l e = omega (arith, num-lt x)
-
-only_bit : (x : Bool) (d : ℕ) → d ≡ num x → low_bit d ≡ x
-only_bit x d e = eqb_num (d % 2) x (omega (arith, num-lt x))
 
 -- ---- an entry that fails
 
@@ -145,10 +141,10 @@ module _ (moves tops sets : List ℕ) (kept i : ℕ) where
       ∙ ap (λ (w : ℕ). bit w i) (sym (failing-next moves tops (j - 1))) ∙ ap (λ (z : ℕ). bit (failing moves tops z) i) u ∙ g.member
 
   pub ends_at_top : (j k : ℕ) → Failing moves tops sets kept j i → j ≡ 0 → k < 4 → fails 0 (get_or tops (4 * i + k) 0) ≡ true
-      → Stepped moves tops sets kept j i (Ends k)
+      → Stepped moves tops sets kept j i (record { pair = k; leads = None })
   ends_at_top j k g e h f = (h, λ s t _ known l r. rw e (top-ends s t i k h g.state tops known f l r))
 
-  pub ends_below : (j k : ℕ) → Failing moves tops sets kept j i → (j ≡ 0 → ⊥) → k < 4 → 64 ≤ get_or moves (4 * i + k) 0 → Stepped moves tops sets kept j i (Ends k)
+  pub ends_below : (j k : ℕ) → Failing moves tops sets kept j i → (j ≡ 0 → ⊥) → k < 4 → 64 ≤ get_or moves (4 * i + k) 0 → Stepped moves tops sets kept j i (record { pair = k; leads = None })
   ends_below zero k g z h f = absurd (z refl)
   ends_below (suc j) k g z h f = (h, λ s t known _ l r. low_differs s t i k h g.state moves known j l r f)
 
@@ -169,44 +165,26 @@ module _ (moves tops sets : List ℕ) (kept i : ℕ) where
 
   pub leads_on : (j k at : ℕ) → Failing moves tops sets kept j i → (j ≡ 0 → ⊥) → at ≡ kept_at kept (j - 1) → k < 4
       → fails (get_or sets at 0) (get_or moves (4 * i + k) 0) ≡ true → get_or moves (4 * i + k) 0 < 64
-      → Stepped moves tops sets kept j i (Leads k (get_or moves (4 * i + k) 0))
+      → Stepped moves tops sets kept j i (record { pair = k; leads = Some (get_or moves (4 * i + k) 0) })
   leads_on zero k at g z e h f l = absurd (z refl)
   leads_on (suc j) k at g z e h f m = (
     h,
-    pos_of_ne-zero z,
-    next_failing (suc j) at (get_or moves (4 * i + k) 0) g (pos_of_ne-zero z) e f m,
-    λ s t known l r q. low_leads s t i k h g.state moves known j l r m (rw suc-sub_one at q),
+    (
+      pos_of_ne-zero z,
+      next_failing (suc j) at (get_or moves (4 * i + k) 0) g (pos_of_ne-zero z) e f m,
+      λ s t known l r q. low_leads s t i k h g.state moves known j l r m (rw suc-sub_one at q),
+    ),
   )
 
   -- ---- the whole walk
 
-  pub in_arm : (j : ℕ) (step arm : Step) → Stepped moves tops sets kept j i step → step ≡ arm → Stepped moves tops sets kept j i arm
-  in_arm j step arm stepped e = subst (Stepped moves tops sets kept j i) e stepped
-
-  module _ (j k left right : ℕ) where
-    pub ends_there : Stepped moves tops sets kept j i (Ends k) → left ≡ k / 2 + 2 * 0 → right ≡ k % 2 + 2 * 0 → Refuted moves tops j i left right
-    ends_there z u v =
-        let h : k < 4 = z.0 in
-        record {
-          left_fits = omega (arith, pow-suc 2 j, pow_pos j);
-          right_fits = omega (arith, pow-suc 2 j, pow_pos j);
-          fails = λ s t known top. rw (u, v) (z.1 s t known top 0 0);
-        }
-
-    pub leads_there : (m l r : ℕ) → Stepped moves tops sets kept j i (Leads k m) → Refuted moves tops (j - 1) m l r
-        → left ≡ k / 2 + 2 * l → right ≡ k % 2 + 2 * r → Refuted moves tops j i left right
-    leads_there m l r z rest u v =
-        let h : k < 4 = z.0 in
-        let n : suc (j - 1) ≡ j = omega (arith, z.1) in
-        let hl : l < 2 ^ j = rw n at rest.left_fits in
-        let hr : r < 2 ^ j = rw n at rest.right_fits in
-        record {
-          left_fits = omega (arith, pow-suc 2 j);
-          right_fits = omega (arith, pow-suc 2 j);
-          fails = λ s t known top. rw (u, v) (z.3 s t known l r (rest.fails s t known top));
-        }
-
-pub rest_fits : (moves tops : List ℕ) (j m l r : ℕ) → j < 63 → Refuted moves tops j m l r → (l < 2 ^ 63) × (r < 2 ^ 63)
-rest_fits moves tops j m l r h g =
-    let p : 2 ^ suc j ≤ 2 ^ 63 = pow_mono {i = suc j} {j = 63} (omega arith) in
-    (lt_of_lt_of_le g.left_fits p, lt_of_lt_of_le g.right_fits p)
+  pub ends_there : (j : ℕ) (r : Step) (left right : ℕ) → Stepped moves tops sets kept j i r → r.leads ≡ None
+      → left ≡ r.pair / 2 + 2 * 0 → right ≡ r.pair % 2 + 2 * 0 → Refuted moves tops j i left right
+  ends_there j r left right z e u v =
+      let h : r.pair < 4 = z.0 in
+      let f = subst (Goes moves tops sets kept j i r.pair) e z.1 in
+      record {
+        left_fits = omega (arith, pow-suc 2 j, pow_pos j);
+        right_fits = omega (arith, pow-suc 2 j, pow_pos j);
+        fails = λ s t known top. rw (u, v) (f s t known top 0 0);
+      }

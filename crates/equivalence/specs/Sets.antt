@@ -1,7 +1,7 @@
 -- What the search for operands at which a recipe fails goes by: tables of what happens at one place, sets of failing states from the top
 -- place down, and a walk from the lowest place up.
 -- Nothing here has to be believed: the proofs show that what is found is what Verdicts.antt of the crate verdict says.
-use Rattle.std.specs.Prelude.{ℕ, zero, suc, ◌+◌, ◌-◌, ◌*◌, ◌/◌, ◌%◌, ◌^◌, ◌≤◌, ◌<◌, Bool, true, false, ◌||◌, eqb, ltb, leb, get_or, length, ◌≡◌, List, if◌then◌else◌}
+use Rattle.std.specs.Prelude.{ℕ, zero, suc, ◌+◌, ◌-◌, ◌*◌, ◌/◌, ◌%◌, ◌^◌, ◌≤◌, ◌<◌, Bool, true, false, ◌||◌, eqb, ltb, leb, get_or, length, ◌≡◌, List, Option, Some, None, if◌then◌else◌}
 use Rattle.bits.specs.Bits.{num, bit, word}
 use Rattle.binding.specs.declared.Side.{Side}
 use Rattle.output.specs.declared.Outputs.{Outputs}
@@ -12,7 +12,6 @@ use Rattle.automaton.specs.declared.Cell.{Cell}
 use Rattle.automaton.specs.declared.State.{State}
 use Rattle.equivalence.specs.declared.moves.Tables.{Tables}
 use Rattle.equivalence.specs.declared.witness.Step.{Step}
-use Rattle.equivalence.specs.declared.witness.Step.TheVariants.{Ends, Leads}
 
 -- a state's number, below 64, and back
 abbrev pub index_of : State → ℕ
@@ -124,12 +123,14 @@ pub record Refuted (moves tops : List ℕ) (j i left right : ℕ) : Type 0 where
   pub fails : (s : Side) (t : Recipe) → Table (move_of s t) moves → Table (top_of s t) tops → agrees_from s t j (state_of i) left right ≡ false
 
 -- of whatever side and recipe the tables are, operands that begin with the pair k fail, or do so if those above them fail from the state m
-abbrev pub Stepped : List ℕ → List ℕ → List ℕ → ℕ → ℕ → ℕ → Step → Type 0
-Stepped moves tops sets last j i (Ends k) =
-    (k < 4)
-    × ((s : Side) (t : Recipe) → Table (move_of s t) moves → Table (top_of s t) tops
-    → (l r : ℕ) → agrees_from s t j (state_of i) (k / 2 + 2 * l) (k % 2 + 2 * r) ≡ false)
-Stepped moves tops sets last j i (Leads k m) =
-    (k < 4) × (0 < j) × Failing moves tops sets last (j - 1) m
+abbrev pub Goes : List ℕ → List ℕ → List ℕ → ℕ → ℕ → ℕ → ℕ → Option ℕ → Type 0
+Goes moves tops sets last j i k None =
+    (s : Side) (t : Recipe) → Table (move_of s t) moves → Table (top_of s t) tops
+    → (l r : ℕ) → agrees_from s t j (state_of i) (k / 2 + 2 * l) (k % 2 + 2 * r) ≡ false
+Goes moves tops sets last j i k (Some m) =
+    (0 < j) × Failing moves tops sets last (j - 1) m
     × ((s : Side) (t : Recipe) → Table (move_of s t) moves
     → (l r : ℕ) → agrees_from s t (j - 1) (state_of m) l r ≡ false → agrees_from s t j (state_of i) (k / 2 + 2 * l) (k % 2 + 2 * r) ≡ false)
+
+abbrev pub Stepped : List ℕ → List ℕ → List ℕ → ℕ → ℕ → ℕ → Step → Type 0
+Stepped moves tops sets last j i r = (r.pair < 4) × Goes moves tops sets last j i r.pair r.leads

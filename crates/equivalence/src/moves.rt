@@ -1,6 +1,5 @@
 // The machine's moves as a table: what the two sides do at a place is asked once, and not at every place and round again.
 ghost use Rattle.std.specs.Prelude.{◌≡◌, ◌<◌};
-ghost use Rattle.bits.specs.Bits.{num};
 ghost use Rattle.equivalence.specs.Sets as S;
 
 use automaton::{Cell, Ripple, State};
@@ -9,16 +8,11 @@ use output::Outputs;
 
 // For each state and pair of bits, at 4 * state + pair: the number of the state after it, or 64 where O0 differs; and 64 where a port
 // differs if the place is the top one, else 0.
+// Kept: the 64 in place of an Option is no less plain: one test against a set serves both tables, and an entry is one byte.
 #[derive(Clone, Copy)]
 pub struct Tables {
     pub moves: [u8; 256],
     pub tops: [u8; 256],
-}
-
-fn number(b: bool) -> u8
-    ensures { (result ≡ num b) × (result < 2) }
-{
-    if b { 1 } else { 0 }
 }
 
 pub fn index_of(a: State) -> u8
@@ -26,12 +20,12 @@ pub fn index_of(a: State) -> u8
 {
     let p = a.source;
     let q = a.target;
-    number(p.lo)
-        + 2 * number(p.hi)
-        + 4 * number(q.lo)
-        + 8 * number(q.hi)
-        + 16 * number(a.any)
-        + 32 * number(a.all)
+    u8::from(p.lo)
+        + 2 * u8::from(p.hi)
+        + 4 * u8::from(q.lo)
+        + 8 * u8::from(q.hi)
+        + 16 * u8::from(a.any)
+        + 32 * u8::from(a.all)
 }
 
 // What a side does, for each ripple and pair of bits.
@@ -48,15 +42,12 @@ fn cells(s: Side) -> [Cell; 16]
         overflow: false,
         order: false,
     }; 16];
-    let mut c: usize = 0;
-    while c < 16 {
+    for c in 0..16 {
         let a = Ripple {
             lo: c / 4 % 2 == 1,
             hi: c / 8 % 2 == 1,
         };
-        let e = automaton::cell_of(s, a, c / 2 % 2 == 1, c % 2 == 1);
-        found[c] = e;
-        c += 1;
+        found[c] = automaton::cell_of(s, a, c / 2 % 2 == 1, c % 2 == 1);
     }
     found
 }
@@ -89,15 +80,13 @@ pub fn tabulate(s: Side, t: Recipe) -> Tables
     let target = cells(side);
     let mut moves = [0u8; 256];
     let mut tops = [0u8; 256];
-    let mut m: usize = 0;
-    while m < 256 {
+    for m in 0..256 {
         let p = source[m % 16];
         let q = target[m / 16 % 4 * 4 + m % 4];
         let any = m / 64 % 2 == 1;
         let all = m / 128 % 2 == 1;
         moves[m] = move_of(outputs, p, q, any, all);
         tops[m] = top_of(outputs, p, q, any, all);
-        m += 1;
     }
     Tables { moves, tops }
 }

@@ -3,6 +3,8 @@ ghost use Rattle.std.specs.Prelude.{◌≡◌, ◌+◌, ◌*◌, ◌^◌, ◌<�
 ghost use Rattle.bits.specs.Bits.{num};
 ghost use Rattle.equivalence.specs.Sets as S;
 
+use crate::moves::Tables;
+
 // The sets with 1, 2, .. places to go, up to sets[last]; from there on they are all the same.
 #[derive(Clone, Copy)]
 pub struct Rounds {
@@ -11,6 +13,7 @@ pub struct Rounds {
 }
 
 // Whether an entry of a table fails: at once, or by leading into the set.
+#[tactic(auto, unfolding(crate::specs::Sets::fails, bits::specs::Bits::bit))]
 pub fn fails(table: &[u8], at: usize, set: u64) -> bool
     requires { at < length table.now }
     ensures { result ≡ S.fails set (get_or table.now at 0) }
@@ -36,7 +39,7 @@ fn placed(b: bool, i: usize) -> u64
     requires { i < 64 }
     ensures { result ≡ num b * 2 ^ i }
 {
-    if b { 1 << i } else { 0 }
+    u64::from(b) << i
 }
 
 // The states that fail by some pair of bits.
@@ -45,31 +48,27 @@ fn round(table: &[u8], set: u64) -> u64
     ensures { result ≡ S.round table.now set }
 {
     let mut failing: u64 = 0;
-    let mut i: usize = 0;
-    while i < 64 {
+    for i in 0..64 {
         failing += placed(some_fails(table, set, i), i);
-        i += 1;
     }
     failing
 }
 
 // A set follows from the one before it alone, so one that repeats stays.
-pub fn failing_sets(moves: &[u8], tops: &[u8], k: usize) -> Rounds
-    requires { S.TableSizes moves.now tops.now × (k < 64) }
-    ensures { S.Kept moves.now tops.now k result.last result.sets }
+pub fn failing_sets(tables: &Tables, k: usize) -> Rounds
+    requires { S.TableSizes tables.now.moves tables.now.tops × (k < 64) }
+    ensures { S.Kept tables.now.moves tables.now.tops k result.last result.sets }
 {
     let mut sets = [0u64; 64];
-    let mut set = round(tops, 0);
+    let mut set = round(&tables.tops, 0);
     sets[0] = set;
-    let mut j: usize = 0;
-    while j < k {
-        let lower = round(moves, set);
+    for j in 0..k {
+        let lower = round(&tables.moves, set);
         if lower == set {
             return Rounds { sets, last: j };
         }
-        j += 1;
-        sets[j] = lower;
+        sets[j + 1] = lower;
         set = lower;
     }
-    Rounds { sets, last: j }
+    Rounds { sets, last: k }
 }

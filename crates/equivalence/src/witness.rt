@@ -2,7 +2,8 @@
 ghost use Rattle.std.specs.Prelude.{◌≡◌, true, ◌+◌, ◌*◌, ◌/◌, ◌%◌, ◌^◌, ◌<◌, length, get_or};
 ghost use Rattle.equivalence.specs.Sets as S;
 
-use crate::rounds;
+use crate::moves::Tables;
+use crate::rounds::{self, Rounds};
 
 #[derive(Clone, Copy)]
 pub struct Operands {
@@ -10,11 +11,11 @@ pub struct Operands {
     pub right: u64,
 }
 
-// The pair of bits at a place, and the state to which it leads.
+// The pair of bits at a place, and the state to which it leads, if the walk does not end there.
 #[derive(Clone, Copy)]
-pub enum Step {
-    Ends(usize),
-    Leads(usize, usize),
+pub struct Step {
+    pub pair: usize,
+    pub leads: Option<usize>,
 }
 
 // Of the four pairs of bits the first that fails.
@@ -55,30 +56,37 @@ fn above(k: usize, rest: Operands) -> Operands
 
 // One place of the walk, with j + 1 places to go: the pair of bits there, and the state to which it leads. Where O0 differs at it, or the
 // place is the top one, the walk ends.
-fn step_from(moves: &[u8], tops: &[u8], sets: &[u64], last: usize, j: usize, i: usize) -> Step
-    requires { S.Failing moves.now tops.now sets.now last j i }
-    ensures { S.Stepped moves.now tops.now sets.now last j i result }
+fn step_from(tables: &Tables, rounds: &Rounds, j: usize, i: usize) -> Step
+    requires { S.Failing tables.now.moves tables.now.tops rounds.now.sets rounds.now.last j i }
+    ensures { S.Stepped tables.now.moves tables.now.tops rounds.now.sets rounds.now.last j i result }
 {
     if j == 0 {
-        return Step::Ends(failing_pair(tops, 0, i));
+        return Step {
+            pair: failing_pair(&tables.tops, 0, i),
+            leads: None,
+        };
     }
-    let at = kept_at(last, j - 1);
-    let k = failing_pair(moves, sets[at], i);
-    let m = moves[4 * i + k];
+    let at = kept_at(rounds.last, j - 1);
+    let pair = failing_pair(&tables.moves, rounds.sets[at], i);
+    let m = tables.moves[4 * i + pair];
     if 64 <= m {
-        return Step::Ends(k);
+        return Step { pair, leads: None };
     }
-    Step::Leads(k, m as usize)
+    Step {
+        pair,
+        leads: Some(m as usize),
+    }
 }
 
 // From the state i with j + 1 places to go. The operands are 0 above the place at which the walk ends.
-pub fn walk(moves: &[u8], tops: &[u8], sets: &[u64], last: usize, j: usize, i: usize) -> Operands
-    requires { S.Failing moves.now tops.now sets.now last j i }
-    ensures { S.Refuted moves.now tops.now j i result.left result.right }
+pub fn walk(tables: &Tables, rounds: &Rounds, j: usize, i: usize) -> Operands
+    requires { S.Failing tables.now.moves tables.now.tops rounds.now.sets rounds.now.last j i }
+    ensures { S.Refuted tables.now.moves tables.now.tops j i result.left result.right }
 {
-    let step = step_from(moves, tops, sets, last, j, i);
-    match step {
-        Step::Ends(k) => above(k, Operands { left: 0, right: 0 }),
-        Step::Leads(k, m) => above(k, walk(moves, tops, sets, last, j - 1, m)),
+    let step = step_from(tables, rounds, j, i);
+    let pair = step.pair;
+    match step.leads {
+        None => above(pair, Operands { left: 0, right: 0 }),
+        Some(m) => above(pair, walk(tables, rounds, j - 1, m)),
     }
 }

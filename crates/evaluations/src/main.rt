@@ -9,25 +9,27 @@ mod ranges;
 
 use groups::{at_width, turns, vectors};
 use ranges::first_out_at;
-use testing::names::name_at;
 use testing::say::report;
 
-const RANGES: [u8; 117] =
-    *b"function out of range|width out of range|left out of range|right out of range\
-    |carry out of range|nothing out of range";
+const RANGES: [(&str, Option<usize>); 6] = [
+    ("function out of range", Some(0)),
+    ("width out of range", Some(1)),
+    ("left out of range", Some(2)),
+    ("right out of range", Some(3)),
+    ("carry out of range", Some(4)),
+    ("nothing out of range", None),
+];
 
 // By the first place that is out of range.
 fn report_ranges(rt: &HostRuntime) {
-    let mut place = 0;
-    while place < 6 {
-        report(rt, name_at(&RANGES, place), first_out_at(rt, place));
-        place += 1;
+    for (name, place) in RANGES {
+        report(rt, name.as_bytes(), first_out_at(rt, place));
     }
 }
 
 fn main(rt: HostRuntime) {
-    report(&rt, b"width 64 accepted", at_width(&rt, 64, 5));
-    report(&rt, b"width 65 refused", at_width(&rt, 65, 1));
+    report(&rt, b"width 64 accepted", at_width(&rt, 64, None));
+    report(&rt, b"width 65 refused", at_width(&rt, 65, Some(1)));
     report(&rt, b"vectors of Table 4", vectors(&rt));
     report(&rt, b"corner operands", turns(&rt, 0, 169344));
     report(&rt, b"random operands", turns(&rt, 169344, 1206144));

@@ -1,6 +1,7 @@
 // Values out of range at each of the five places, alone and together. Each place has five values, of which the last three are out of
 // range, and every choice of five is tried.
-use crate::beside::{Given, agree, counted};
+use crate::beside::{Given, agree, count};
+use reference::evaluator::Operands;
 use reference::trial::ones;
 use testing::tally::Tally;
 
@@ -33,43 +34,26 @@ fn choice(i: u32) -> Given {
     Given {
         function: FUNCTIONS[function as usize],
         width: WIDTHS[width as usize],
-        left: operand(n, i / 25 % 5),
-        right: operand(n, i / 125 % 5),
-        carry: CARRIES[carry as usize],
+        operands: Operands {
+            left: operand(n, i / 25 % 5),
+            right: operand(n, i / 125 % 5),
+            carry: CARRIES[carry as usize],
+        },
     }
 }
 
-// The first place at which the i-th choice is out of range, or 5.
-fn first_place(i: u32) -> usize {
-    if 2 <= i % 5 {
-        return 0;
-    }
-    if 2 <= i / 5 % 5 {
-        return 1;
-    }
-    if 2 <= i / 25 % 5 {
-        return 2;
-    }
-    if 2 <= i / 125 % 5 {
-        return 3;
-    }
-    if 2 <= i / 625 % 5 {
-        return 4;
-    }
-    5
+// The first place at which the i-th choice is out of range.
+fn first_place(i: u32) -> Option<usize> {
+    let values = [i % 5, i / 5 % 5, i / 25 % 5, i / 125 % 5, i / 625 % 5];
+    values.iter().position(|value| 2 <= *value)
 }
 
-// All choices that are first out of range at a place; at 5, all that are in range.
-pub fn first_out_at(rt: &HostRuntime, place: usize) -> Tally {
-    let mut tally = testing::tally::none();
-    let mut i = 0;
-    while i < 3125 {
-        if first_place(i) == place {
-            let given = choice(i);
-            let next = counted(rt, tally, given, agree(given, place));
-            tally = next;
-        }
-        i += 1;
+// All choices that are first out of range at a place; at none, all that are in range.
+pub fn first_out_at(rt: &HostRuntime, place: Option<usize>) -> Tally {
+    let mut tally = Tally::none();
+    for i in (0..3125).filter(|i| first_place(*i) == place) {
+        let given = choice(i);
+        count(rt, &mut tally, given, agree(given, place));
     }
     tally
 }

@@ -5,46 +5,34 @@
 mod cases;
 mod said;
 
-ghost use Rattle.std.specs.Prelude.{◌+◌, ◌≤◌, ◌<◌, length};
+ghost use Rattle.std.specs.Prelude.{◌+◌, ◌≤◌, ◌<◌, length, IfSome};
 
 use hexadecimal::{Hex, Step};
 use input::KEPT_WORDS;
 use std::fs::File;
 use std::io::Read;
 
-// The word being read, the words so far, and whether a byte could not stand where it was.
+// The word being read, and how many are before it.
 #[derive(Clone, Copy)]
 struct Taken {
     hex: Hex,
     count: usize,
-    bad: bool,
 }
 
-// Takes one byte of a text, and puts the word that it ends behind those before.
-fn take(hex: Hex, byte: u8, words: &mut [u32], count: usize) -> Taken
+// Takes one byte of a text, and puts the word that it ends behind those before; nothing, if the byte cannot stand where it is.
+fn take(hex: Hex, byte: u8, words: &mut [u32], count: usize) -> Option<Taken>
     requires { count < length words.old }
-    ensures { result.count ≤ count + 1 }
+    ensures { IfSome result (λ taken. taken.count ≤ count + 1) }
 {
-    let step = hexadecimal::taken(hex, byte);
-    match step {
-        Step::More(more) => Taken {
-            hex: more,
-            count,
-            bad: false,
-        },
+    match hexadecimal::taken(hex, byte)? {
+        Step::More(more) => Some(Taken { hex: more, count }),
         Step::Word(word, next) => {
             words[count] = word;
-            Taken {
+            Some(Taken {
                 hex: next,
                 count: count + 1,
-                bad: false,
-            }
+            })
         }
-        Step::Bad => Taken {
-            hex,
-            count,
-            bad: true,
-        },
     }
 }
 
@@ -54,18 +42,17 @@ fn words_in(bytes: &[u8], words: &mut [u32]) -> usize
 {
     let mut hex = hexadecimal::between(false);
     let mut count = 0;
-    let mut i = 0;
-    while i < bytes.len() {
+    for byte in bytes {
         if words.len() <= count {
             return count;
         }
-        let taken = take(hex, bytes[i], words, count);
-        if taken.bad {
-            return count;
+        match take(hex, *byte, words, count) {
+            Some(taken) => {
+                hex = taken.hex;
+                count = taken.count;
+            }
+            None => return count,
         }
-        hex = taken.hex;
-        count = taken.count;
-        i += 1;
     }
     count
 }

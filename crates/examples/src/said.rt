@@ -11,19 +11,10 @@ fn read_of(bytes: usize, words: usize) -> Input
     ensures { result.kept ≤ words }
 {
     let whole = bytes / 4;
-    let cut = bytes % 4 != 0;
-    if whole < words {
-        return Input {
-            kept: whole,
-            whole,
-            cut,
-            failed: false,
-        };
-    }
     Input {
-        kept: words,
+        kept: whole.min(words),
         whole,
-        cut,
+        cut: bytes % 4 != 0,
         failed: false,
     }
 }

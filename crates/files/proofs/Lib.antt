@@ -1,2 +1,1 @@
 pub mod Unpacking
-pub mod Falling

@@ -8,19 +8,14 @@ ghost use Rattle.files.specs.Files as F;
 fn word_from(a: u8, b: u8, c: u8, d: u8) -> u32
     ensures { result ≡ F.word_from a b c d }
 {
-    a as u32 + (b as u32) * 256 + (c as u32) * 65536 + (d as u32) * 16777216
+    u32::from_le_bytes([a, b, c, d])
 }
 
 // The four bytes of a word.
 pub fn bytes_of(word: u32) -> [u8; 4]
     ensures { result ≡ F.bytes_of word }
 {
-    [
-        (word % 256) as u8,
-        (word / 256 % 256) as u8,
-        (word / 65536 % 256) as u8,
-        (word / 16777216 % 256) as u8,
-    ]
+    word.to_le_bytes()
 }
 
 // The whole words of a file, put into lent ones, and how many they are.
@@ -30,11 +25,9 @@ pub fn words_of(bytes: &[u8], words: &mut [u32]) -> usize
     ensures words { words.new ≡ sets words.old 0 (F.words_of bytes.now) }
 {
     let whole = bytes.len() / 4;
-    let mut i = 0;
-    while i < whole {
+    for i in 0..whole {
         let at = 4 * i;
         words[i] = word_from(bytes[at], bytes[at + 1], bytes[at + 2], bytes[at + 3]);
-        i += 1;
     }
     whole
 }

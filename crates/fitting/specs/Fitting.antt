@@ -1,21 +1,20 @@
 -- Document 01, refusals 7 and 8: "A mapping fits its job if neither 7 nor 8 holds".
-use Rattle.std.specs.Prelude.{ℕ, ◌+◌, not, List, [], ◌∷◌, eqb, if◌then◌else◌}
+use Rattle.std.specs.Prelude.{ℕ, ◌+◌, not, List, [], ◌∷◌, eqb, if◌then◌else◌, Result, Ok, Err, ⊤}
 use Rattle.words.specs.Paper.{refusal}
 use Rattle.reader.specs.Starts.{bindings_start}
 use Rattle.reader.specs.declared.Mapping.{Mapping}
 use Rattle.table.specs.Parts.{Terms}
 use Rattle.table.specs.Table.{in_job}
-use Rattle.fitting.specs.declared.Fit.{Fit}
-use Rattle.fitting.specs.declared.Fit.TheVariants.{Fits, Misfit}
+use Rattle.words.specs.declared.Refusal.{Refusal}
 
 -- "8. Source or target function not in the job; first such word", of bindings that begin at a word
-unfoldable pub all_in_job : List ℕ → List ℕ → ℕ → List ℕ → Fit
-all_in_job sources targets place [] = Fits
+unfoldable pub all_in_job : List ℕ → List ℕ → ℕ → List ℕ → Result ⊤ Refusal
+all_in_job sources targets place [] = Ok tt
 all_in_job sources targets place (w ∷ ws) =
-    if not (in_job sources targets w) then Misfit (refusal 8 place) else all_in_job sources targets (place + 1) ws
+    if not (in_job sources targets w) then Err (refusal 8 place) else all_in_job sources targets (place + 1) ws
 
 -- "7. Widths of mapping and job differ; place 0."; then 8
-unfoldable pub fit_of : Terms → Mapping → List ℕ → Fit
+unfoldable pub fit_of : Terms → Mapping → List ℕ → Result ⊤ Refusal
 fit_of t mapping bindings =
-    if not (eqb t.width mapping.width) then Misfit (refusal 7 0)
+    if not (eqb t.width mapping.width) then Err (refusal 7 0)
     else all_in_job t.sources t.targets bindings_start bindings

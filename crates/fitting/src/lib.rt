@@ -6,65 +6,63 @@ ghost use Rattle.reader.specs.Starts.{bindings_start};
 ghost use Rattle.table.specs.Parts as T;
 ghost use Rattle.fitting.specs.Pair as P;
 ghost use Rattle.fitting.specs.Fitting as F;
+ghost use Rattle.fitting.specs.declared.PairError.TheVariants.{Refused};
 
-use reader::{Job, JobRead, Mapping, MappingRead};
+use reader::{Job, Mapping};
 use words::Refusal;
 
-// A job and a mapping that were read, or the first refusal, 1 to 6, of the one or the other.
+// A refusal of a job and a mapping handed in together: 1 to 6 of the one or of the other, or a later one, which speaks of both.
 #[derive(Clone, Copy)]
-pub enum Pair {
-    Read(Job, Mapping),
+pub enum PairError {
     JobRefused(Refusal),
     MappingRefused(Refusal),
+    Refused(Refusal),
 }
 
-// Whether a mapping fits its job, or the first refusal, 7 or 8.
-#[derive(Clone, Copy)]
-pub enum Fit {
-    Fits,
-    Misfit(Refusal),
-}
+impl From<Refusal> for PairError {
+    ghost from_gives = { λ refusal error. error ≡ Refused refusal };
 
-// The job is read in full before the mapping.
-pub fn read_pair(job: &[u32], mapping: &[u32]) -> Pair
-    ensures { result ≡ P.pair_of job.now mapping.now }
-{
-    let job_read = reader::read_job(job);
-    match job_read {
-        JobRead::Refused(refusal) => Pair::JobRefused(refusal),
-        JobRead::Accepted(facts) => {
-            let mapping_read = reader::read_mapping(mapping);
-            match mapping_read {
-                MappingRead::Refused(refusal) => Pair::MappingRefused(refusal),
-                MappingRead::Accepted(binds) => Pair::Read(facts, binds),
-            }
-        }
+    fn from(refusal: Refusal) -> PairError {
+        PairError::Refused(refusal)
     }
 }
 
+// A job and a mapping, or the first refusal, 1 to 6. The job is read in full before the mapping.
+pub fn read_pair(job: &[u32], mapping: &[u32]) -> Result<(Job, Mapping), PairError>
+    ensures { result ≡ P.pair_of job.now mapping.now }
+{
+    let facts = reader::read_job(job).map_err(PairError::JobRefused)?;
+    let binds = reader::read_mapping(mapping).map_err(PairError::MappingRefused)?;
+    Ok((facts, binds))
+}
+
 // Whether the functions of all bindings are in the job.
-fn all_in_job(sources: &[u32], targets: &[u32], bindings: &[u32]) -> Fit
+fn all_in_job(sources: &[u32], targets: &[u32], bindings: &[u32]) -> Result<(), Refusal>
     ensures { result ≡ F.all_in_job sources.now targets.now bindings_start bindings.now }
 {
-    let mut i = 0;
-    while i < bindings.len() {
-        if !table::in_job(sources, targets, bindings[i]) {
-            return Fit::Misfit(Refusal {
+    for (i, binding) in bindings.iter().enumerate() {
+        if !table::in_job(sources, targets, *binding) {
+            return Err(Refusal {
                 number: 8,
                 place: reader::BINDINGS_START + i,
             });
         }
-        i += 1;
     }
-    Fit::Fits
+    Ok(())
 }
 
-// The width first, then the bindings.
-pub fn fit_of(job: Job, sources: &[u32], targets: &[u32], mapping: Mapping, bindings: &[u32]) -> Fit
+// Whether a mapping fits its job, or the first refusal, 7 or 8: the width first, then the bindings.
+pub fn fit_of(
+    job: Job,
+    sources: &[u32],
+    targets: &[u32],
+    mapping: Mapping,
+    bindings: &[u32],
+) -> Result<(), Refusal>
     ensures { result ≡ F.fit_of (T.terms_with job sources.now targets.now) mapping bindings.now }
 {
     if job.width != mapping.width {
-        return Fit::Misfit(Refusal {
+        return Err(Refusal {
             number: 7,
             place: 0,
         });

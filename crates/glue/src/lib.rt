@@ -28,7 +28,7 @@ pub fn distinct(part: u64, from: u32, size: u32) -> u32
 pub fn steps(distinct: u32) -> u32
     ensures { result ≡ G.steps distinct }
 {
-    if distinct == 0 { 0 } else { distinct - 1 }
+    distinct.saturating_sub(1)
 }
 
 // So many pieces at a price.
@@ -91,10 +91,8 @@ pub fn codes_count(n: u32, prices: Prices, part: u64) -> u32
     ensures { (result ≡ G.codes_count (G.code_price n prices) (B.bit part) G.comparison_codes) × (result ≤ 149940) }
 {
     let mut total = 0;
-    let mut code = 1;
-    while code < 16 {
+    for code in 1..16 {
         total += when(has(part, code), code_price(n, prices, code));
-        code += 1;
     }
     total
 }

@@ -7,7 +7,7 @@ use native.Mathlib.Omega.{arith}
 use lib.Dec.{eqb}
 use lib.ListN.{length, drop, get_or, drop_of_length-le}
 use borrow.Author.Tests.{eqb-true, not-true, not-false}
-use Rattle.std.specs.Prelude.{if◌then◌else◌}
+use Rattle.std.specs.Prelude.{if◌then◌else◌, Ok, Err}
 use Rattle.words.specs.Field.{kind_of}
 use Rattle.words.specs.Kinds.{is_recipe}
 use Rattle.words.specs.declared.Refusal.{Refusal}
@@ -18,7 +18,6 @@ use Rattle.sequence.specs.Sequence.{in_sequence}
 use Rattle.grammar.specs.Reading.{fits, rises, word_fault, after, reading}
 use Rattle.sequence.specs.declared.File.{File}
 use Rattle.sequence.specs.declared.State.{State}
-use Rattle.grammar.specs.declared.step.Reading.TheVariants.{Passed, Stopped}
 
 -- ---- the tests that a word has passed
 
@@ -64,22 +63,22 @@ module _ (file : File) (s : State) (w : ℕ) where
 
 -- ---- words without a fault one after another
 
-pub apart : {Q : Type 0} (r : Refusal) (t : State) → Stopped r ≡ Passed t → Q
+pub apart : {Q : Type 0} (r : Refusal) (t : State) → Err r ≡ Ok t → Q
 apart r t e = let z : ◌≡◌ {A = ℕ} 0 1 = cc in absurd (omega arith)
 
 -- what a word without a fault keeps up, holds after the last
 module _ (file : File) (ws : List ℕ) (P : State → ℕ → Type 0)
     (keeps : (s : State) (i : ℕ) → i < length ws → Faultless file s (get_or ws i 0) → P s i → P (after s (get_or ws i 0)) (i + 1)) where
-  pub passed : (n i : ℕ) (s t : State) → i + n ≡ length ws → P s i → reading file s i (drop i ws) ≡ Passed t → P t (length ws)
+  pub passed : (n i : ℕ) (s t : State) → i + n ≡ length ws → P s i → reading file s i (drop i ws) ≡ Ok t → P t (length ws)
   passed zero i s t h p e =
       let l : i ≡ length ws = omega arith in
-      let q : Passed s ≡ Passed t = rw (drop_of_length-le ws {i = i} (omega arith)) at e in
+      let q : Ok s ≡ Ok t = rw (drop_of_length-le ws {i = i} (omega arith)) at e in
       let u : s ≡ t = cc in
       subst (λ x. P x (length ws)) u (subst (λ x. P s x) l p)
   passed (suc n) i s t h p e =
       let w = get_or ws i 0 in
       let l : i < length ws = omega arith in
-      either (λ r. r ≡ Passed t → P t (length ws)) (eqb (word_fault file s w) 0)
+      either (λ r. r ≡ Ok t → P t (length ws)) (eqb (word_fault file s w) 0)
       (λ z. passed n (i + 1) (after s w) t (omega arith) (keeps s i l (fault_free file s w (eqb-true (word_fault file s w) 0 z)) p))
       (λ _. apart _ t)
       (rw (drop-next ws i l) at e)

@@ -15,7 +15,7 @@ use Rattle.sequence.specs.Sequence.{START, job_sequence, in_sequence}
 use Rattle.grammar.specs.Reading.{beginning, noted, after, function_in, reading}
 use Rattle.sequence.specs.declared.File.TheVariants.{AsJob}
 use Rattle.sequence.specs.declared.State.{State}
-use Rattle.grammar.specs.declared.step.Reading.TheVariants.{Passed}
+use Rattle.std.specs.Prelude.{Ok}
 use Rattle.grammar.proofs.Faultless.{Faultless, passed}
 
 module _ (s : State) (P : ℕ → Type 0) where
@@ -78,7 +78,7 @@ behind_more s i w g q =
     two : {t : State} → 2 ≤ i → Behind t (i + 1)
     two h = record { header = λ _. omega arith; prices = λ _. omega arith; sources = λ _. omega arith }
 
-pub two_words : (ws : List ℕ) (s : State) → reading AsJob beginning 0 ws ≡ Passed s → 1 ≤ s.sources → 2 ≤ length ws
+pub two_words : (ws : List ℕ) (s : State) → reading AsJob beginning 0 ws ≡ Ok s → 1 ≤ s.sources → 2 ≤ length ws
 two_words ws s e h =
     (passed AsJob ws Behind (λ t i _. behind_more t i (get_or ws i 0)) (length ws) 0 beginning s (omega arith)
     (record { header = λ l. absurd (omega arith); prices = λ l. absurd (omega arith); sources = λ l. absurd (omega arith) }) e).sources h

@@ -6,7 +6,7 @@ use native.Mathlib.Nat.{div-one}
 use lib.Dec.{eqb, ltb}
 use lib.Bits.{bit_and, and_mask}
 use borrow.Author.Tests.{eq-eqb, ne_eqb, not-true, not-false}
-use Rattle.std.specs.Prelude.{if◌then◌else◌}
+use Rattle.std.specs.Prelude.{if◌then◌else◌, Ok, Err}
 use Rattle.words.specs.Field.{kind_of, content_of, source_function, target_function}
 use Rattle.words.specs.Kinds.{HEADER, PRICES, SOURCE, TARGET, RULE, BINDING, GLUE, is_recipe}
 use Rattle.words.specs.Paper.{no_refusal}
@@ -18,7 +18,6 @@ use Rattle.grammar.specs.Reading.{header_fits, fits, function_in, rises, word_fa
 use Rattle.sequence.specs.declared.File.{File}
 use Rattle.sequence.specs.declared.File.TheVariants.{AsJob, AsMapping}
 use Rattle.sequence.specs.declared.State.{State}
-use Rattle.grammar.specs.declared.step.Step.TheVariants.{Next, Bad}
 
 -- a kind that is a number, or is not
 module _ (w k : ℕ) (ek : k ≡ kind_of w) where
@@ -153,8 +152,8 @@ counted s w k f a b c d ek ef ea eb ec ed =
     ∙ ap (λ (x : ℕ). noted x (function_in w) s) ek
 
 module _ (file : File) (s : State) (w f : ℕ) (ef : f ≡ word_fault file s w) where
-  pub next : (t : State) → f ≡ 0 → t ≡ after s w → Next t ≡ step_of file s w
-  next t h et = rw (eq-eqb (word_fault file s w) 0 (sym ef ∙ h)) (ap Next et)
+  pub next : (t : State) → f ≡ 0 → t ≡ after s w → Ok t ≡ step_of file s w
+  next t h et = rw (eq-eqb (word_fault file s w) 0 (sym ef ∙ h)) (ap Ok et)
 
-  pub bad : (f ≡ 0 → ⊥) → Bad f ≡ step_of file s w
-  bad h = rw (ne_eqb (word_fault file s w) 0 (λ e. h (ef ∙ e))) (ap Bad ef)
+  pub bad : (f ≡ 0 → ⊥) → Err f ≡ step_of file s w
+  bad h = rw (ne_eqb (word_fault file s w) 0 (λ e. h (ef ∙ e))) (ap Err ef)

@@ -1,5 +1,5 @@
 -- Document 01, "Refusals that come from the input": "word by word, 2 to 6 in each".
-use Rattle.std.specs.Prelude.{ℕ, ◌+◌, ◌^◌, Bool, true, false, not, ◌&&◌, List, [], ◌∷◌, eqb, ltb, if◌then◌else◌}
+use Rattle.std.specs.Prelude.{ℕ, ◌+◌, ◌^◌, Bool, true, false, not, ◌&&◌, List, [], ◌∷◌, eqb, ltb, if◌then◌else◌, Result, Ok, Err}
 use Rattle.words.specs.Field.{field, kind_of, content_of, source_function, target_function}
 use Rattle.words.specs.Kinds.{HEADER, PRICES, SOURCE, TARGET, RULE, BINDING, GLUE, is_recipe}
 use Rattle.words.specs.Paper.{refusal, no_refusal}
@@ -11,10 +11,7 @@ use Rattle.sequence.specs.Sequence.{START, in_sequence}
 use Rattle.sequence.specs.declared.File.{File}
 use Rattle.sequence.specs.declared.File.TheVariants.{AsJob, AsMapping}
 use Rattle.sequence.specs.declared.State.{State}
-use Rattle.grammar.specs.declared.step.Step.{Step}
-use Rattle.grammar.specs.declared.step.Step.TheVariants.{Next, Bad}
-use Rattle.grammar.specs.declared.step.Reading.{Reading}
-use Rattle.grammar.specs.declared.step.Reading.TheVariants.{Passed, Stopped}
+use Rattle.words.specs.declared.Refusal.{Refusal}
 
 -- ---- "3. A field, number or zero bit against the layout": what stands below the kind; "bits not named are zero"
 
@@ -101,15 +98,15 @@ noted kind function s =
 abbrev pub after : State → ℕ → State
 after s w = noted (kind_of w) (function_in w) s
 
-abbrev pub step_of : File → State → ℕ → Step
-step_of file s w = if eqb (word_fault file s w) no_refusal then Next (after s w) else Bad (word_fault file s w)
+abbrev pub step_of : File → State → ℕ → Result State ℕ
+step_of file s w = if eqb (word_fault file s w) no_refusal then Ok (after s w) else Err (word_fault file s w)
 
 -- ---- all words
 
 -- the words from a place on: the state after them, or the number and place of the first that is refused
-abbrev pub reading : File → State → ℕ → List ℕ → Reading
-reading file s place [] = Passed s
+abbrev pub reading : File → State → ℕ → List ℕ → Result State Refusal
+reading file s place [] = Ok s
 reading file s place (w ∷ ws) =
     if eqb (word_fault file s w) no_refusal
     then reading file (after s w) (place + 1) ws
-    else Stopped (refusal (word_fault file s w) place)
+    else Err (refusal (word_fault file s w) place)

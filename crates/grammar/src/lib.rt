@@ -4,4 +4,4 @@
 
 mod step;
 
-pub use step::{Reading, Step, fits, pass};
+pub use step::{fits, pass};

@@ -5,23 +5,7 @@ ghost use Rattle.grammar.specs.Reading as R;
 ghost use Rattle.grammar.specs.Asked as Q;
 
 use sequence::{File, State, in_sequence};
-use words::{
-    BINDING, GLUE, HEADER, NO_REFUSAL, PRICES, RULE, Refusal, SOURCE, TARGET, content_of, kind_of,
-};
-
-// What one word gives: the next state, or the number of its refusal.
-#[derive(Clone, Copy)]
-pub enum Step {
-    Next(State),
-    Bad(u32),
-}
-
-// What all of them give.
-#[derive(Clone, Copy)]
-pub enum Reading {
-    Passed(State),
-    Stopped(Refusal),
-}
+use words::{BINDING, GLUE, HEADER, NO_REFUSAL, PRICES, RULE, SOURCE, TARGET, content_of, kind_of};
 
 // What a header must be: a width, and in a job bit 7 besides, which asks for the book.
 fn header_fits(file: File, word: u32) -> bool
@@ -134,13 +118,14 @@ fn after(s: State, word: u32) -> State
     }
 }
 
-pub fn pass(file: File, s: State, word: u32) -> Step
+// The next state, or the number of the word's refusal.
+pub fn pass(file: File, s: State, word: u32) -> Result<State, u32>
     requires { Q.Counted s most_job_words }
     ensures { result ≡ R.step_of file s word }
 {
     let fault = word_fault(file, s, word);
     if fault == NO_REFUSAL {
-        return Step::Next(after(s, word));
+        return Ok(after(s, word));
     }
-    Step::Bad(fault)
+    Err(fault)
 }

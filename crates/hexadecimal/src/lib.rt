@@ -12,12 +12,11 @@ pub struct Hex {
     pub comment: bool,
 }
 
-// After a byte: the text goes on, a word is complete and the text goes on, or the byte cannot stand here.
+// After a byte: the text goes on, or a word is complete and the text goes on.
 #[derive(Clone, Copy)]
 pub enum Step {
     More(Hex),
     Word(u32, Hex),
-    Bad,
 }
 
 // Between two words, in a comment or not.
@@ -31,85 +30,61 @@ pub fn between(comment: bool) -> Hex
     }
 }
 
-// A digit's value, capital or small; 16 for another byte.
-pub fn digit_of(byte: u8) -> u32
+// A digit's value, capital or small.
+#[tactic(auto, unfolding(crate::specs::Hex::digit_of))]
+pub fn digit_of(byte: u8) -> Option<u32>
     ensures { result ≡ T.digit_of byte }
 {
-    let b = byte as u32;
-    if b < 48 {
-        return 16;
+    match byte {
+        b'0'..=b'9' => Some((byte - b'0') as u32),
+        b'A'..=b'F' => Some((byte - b'A') as u32 + 10),
+        b'a'..=b'f' => Some((byte - b'a') as u32 + 10),
+        _ => None,
     }
-    if b <= 57 {
-        return b - 48;
-    }
-    if b < 65 {
-        return 16;
-    }
-    if b <= 70 {
-        return b - 55;
-    }
-    if b < 97 {
-        return 16;
-    }
-    if b <= 102 {
-        return b - 87;
-    }
-    16
 }
 
+#[tactic(auto, unfolding(crate::specs::Hex::parts))]
 fn parts(byte: u8) -> bool
     ensures { result ≡ T.parts byte }
 {
-    if byte == 32 {
-        return true;
-    }
-    byte == 10
+    byte == b' ' || byte == b'\n'
 }
 
-// What a gap, or the end of the text, makes of the digits before it; a comment may begin there.
-pub fn ended(hex: Hex, comment: bool) -> Step
+// What a gap, or the end of the text, makes of the digits before it, where it can stand there; a comment may begin there.
+#[tactic(auto, unfolding(crate::specs::Hex::ended))]
+pub fn ended(hex: Hex, comment: bool) -> Option<Step>
     ensures { result ≡ T.ended hex comment }
 {
-    if hex.digits == 0 {
-        return Step::More(between(comment));
-    }
-    if hex.digits == 8 {
-        return Step::Word(hex.value, between(comment));
-    }
-    Step::Bad
-}
-
-// A digit more.
-fn with_digit(hex: Hex, digit: u32) -> Hex
-    requires { (hex.digits ≤ 8) × (digit ≤ 15) }
-    ensures { result ≡ T.with_digit hex digit }
-{
-    Hex {
-        digits: hex.digits + 1,
-        value: hex.value % 268435456 * 16 + digit,
-        comment: false,
+    match hex.digits {
+        0 => Some(Step::More(between(comment))),
+        8 => Some(Step::Word(hex.value, between(comment))),
+        _ => None,
     }
 }
 
 // A digit more, if it is one and the word is not full.
-fn extended(hex: Hex, digit: u32) -> Step
-    ensures { result ≡ T.extended hex digit }
+#[tactic(auto, unfolding(crate::specs::Hex::with_digit, crate::specs::Hex::digit_of))]
+fn with_digit(hex: Hex, byte: u8) -> Option<Hex>
+    ensures { result ≡ T.with_digit hex byte }
 {
     if 8 <= hex.digits {
-        return Step::Bad;
+        return None;
     }
-    if 16 <= digit {
-        return Step::Bad;
-    }
-    Step::More(with_digit(hex, digit))
+    let digit = digit_of(byte)?;
+    Some(Hex {
+        digits: hex.digits + 1,
+        value: hex.value % 268435456 * 16 + digit,
+        comment: false,
+    })
 }
 
-// One byte of the text.
-pub fn taken(hex: Hex, byte: u8) -> Step
+// One byte of the text, where it can stand there.
+#[tactic(auto, unfolding(crate::specs::Hex::taken))]
+pub fn taken(hex: Hex, byte: u8) -> Option<Step>
     ensures { result ≡ T.taken hex byte }
 {
     if hex.comment {
-        return Step::More(between(byte != b'\n'));
+        return Some(Step::More(between(byte != b'\n')));
     }
     if byte == b'#' {
         return ended(hex, true);
@@ -117,25 +92,27 @@ pub fn taken(hex: Hex, byte: u8) -> Step
     if parts(byte) {
         return ended(hex, false);
     }
-    extended(hex, digit_of(byte))
+    Some(Step::More(with_digit(hex, byte)?))
 }
 
 // The word whose digits are all of a text.
-pub fn word_in(text: &[u8]) -> Step
+pub fn word_in(text: &[u8]) -> Option<u32>
     ensures { result ≡ T.word_in text.now }
 {
     let mut hex = between(false);
-    let mut i = 0;
-    while i < text.len() {
-        if 8 <= hex.digits {
-            return Step::Bad;
-        }
-        let digit = digit_of(text[i]);
-        if 16 <= digit {
-            return Step::Bad;
-        }
-        hex = with_digit(hex, digit);
-        i += 1;
+    for byte in text {
+        hex = with_digit(hex, *byte)?;
     }
-    ended(hex, false)
+    last_word(hex)
+}
+
+// The word that the end of the text ends.
+#[tactic(auto, unfolding(crate::specs::Hex::ended))]
+fn last_word(hex: Hex) -> Option<u32>
+    ensures { result ≡ T.last_word hex }
+{
+    match ended(hex, false)? {
+        Step::Word(word, _) => Some(word),
+        Step::More(_) => None,
+    }
 }

@@ -18,85 +18,9 @@ use Rattle.words.proofs.Choices.{either}
 use Rattle.words.proofs.Copies.{sets-append}
 use Rattle.files.specs.Files.{words_of}
 use Rattle.input.specs.Read.{kept_words, kept_bytes, least, input_of, Read}
-use Rattle.input.specs.Kept.{Brings, Keeps, clamp_len, progress_of, brought}
+use Rattle.input.specs.Kept.{BringsBytes, Keeps}
 use Rattle.input.specs.declared.Input.{Input}
 use Rattle.input.specs.declared.Progress.{Progress}
-
--- ---- one answer of the system, read back from its bits
-
-failed_of : (z : ℤ) (size at : ℕ) → lt_z z (pos 0) ≡ true → record { bytes = at; ended = true; failed = true } ≡ progress_of z size at
-failed_of (pos n) size at e = absurd (omega (arith, ltb-true n 0 e))
-failed_of (negsuc n) size at e = refl
-
-none_of : (z : ℤ) (chunk kept : List ℕ) (at : ℕ) → lt_z z (pos 0) ≡ true → kept ≡ sets kept at (take (length kept - at) (brought z chunk))
-none_of (pos n) chunk kept at e = absurd (omega (arith, ltb-true n 0 e))
-none_of (negsuc n) chunk kept at e = rw (take-nil {A = ℕ} (length kept - at)) refl
-
-brought-of : (z : ℤ) (n size at : ℕ) → lt_z z (pos 0) ≡ false → n ≡ clamp_len z size
-    → record { bytes = at + n; ended = eqb n 0; failed = false } ≡ progress_of z size at
-brought-of (pos k) n size at e q = ap (λ (m : ℕ). record { bytes = at + m; ended = eqb m 0; failed = false }) q
-brought-of (negsuc k) n size at e q = absurd (true≢false e)
-
-least_of : (z : ℤ) (size : ℕ) → lt_z z (pos 0) ≡ false → least (nat_abs z) size ≡ clamp_len z size
-least_of (pos k) size e =
-    either (λ (m : ℕ). m ≡ clamp_len (pos k) size) (ltb k size) {x = k} {y = size}
-    (λ q. let h = ltb-true k size q in omega arith)
-    (λ q. let h = ltb-false k size q in omega arith)
-least_of (negsuc k) size e = absurd (true≢false e)
-
-module _ (z : ℤ) (at : ℕ) (f : SFits w64 z) where
-  sign_of : (b : Bool) → lt_z (to_z w64 (of_z w64 z)) (pos 0) ≡ b → lt_z z (pos 0) ≡ b
-  sign_of b e = subst (λ (x : ℤ). lt_z x (pos 0) ≡ b) (to_z-of_z f) e
-
-  pub read_failed : (size : ℕ) → lt_z (to_z w64 (of_z w64 z)) (pos 0) ≡ true
-      → record { bytes = at; ended = true; failed = true } ≡ progress_of z size at
-  read_failed size e = failed_of z size at (sign_of true e)
-
-  pub none_brought : (chunk kept : List ℕ) → lt_z (to_z w64 (of_z w64 z)) (pos 0) ≡ true
-      → kept ≡ sets kept at (take (length kept - at) (brought z chunk))
-  none_brought chunk kept e = none_of z chunk kept at (sign_of true e)
-
-  count_of : (n size : ℕ) → lt_z (to_z w64 (of_z w64 z)) (pos 0) ≡ false → n ≡ least (nat_abs (to_z w64 (of_z w64 z))) size → n ≡ clamp_len z size
-  count_of n size e q = q ∙ ap (λ (x : ℤ). least (nat_abs x) size) (to_z-of_z f) ∙ least_of z size (sign_of false e)
-
-  pub read_brought : (n size : ℕ) → lt_z (to_z w64 (of_z w64 z)) (pos 0) ≡ false → n ≡ least (nat_abs (to_z w64 (of_z w64 z))) size
-      → record { bytes = at + n; ended = eqb n 0; failed = false } ≡ progress_of z size at
-  read_brought n size e q = brought-of z n size at (sign_of false e) (count_of n size e q)
-
-  pub kept_brought : (n : ℕ) (chunk kept after : List ℕ) → lt_z (to_z w64 (of_z w64 z)) (pos 0) ≡ false
-      → n ≡ least (nat_abs (to_z w64 (of_z w64 z))) (length chunk)
-      → after ≡ sets kept at (take (length kept - at) (take n chunk))
-      → after ≡ sets kept at (take (length kept - at) (brought z chunk))
-  kept_brought n chunk kept after e q k =
-      k ∙ ap (λ (m : ℕ). sets kept at (take (length kept - at) (take m chunk))) (count_of n (length chunk) e q)
-
--- ---- a read
-
-clamped_most : (z : ℤ) (most : ℕ) → clamp_len z most ≤ most
-clamped_most (pos n) most = omega arith
-clamped_most (negsuc n) most = omega arith
-
-size_brought : (z : ℤ) (chunk : List ℕ) → length (brought z chunk) ≡ clamp_len z (length chunk)
-size_brought z chunk = length-take-le (clamp_len z (length chunk)) chunk (clamped_most z (length chunk))
-
-counted_of : (z : ℤ) (chunk : List ℕ) (at : ℕ) → (progress_of z (length chunk) at).bytes ≡ at + length (brought z chunk)
-counted_of (pos n) chunk at = ap (λ (m : ℕ). at + m) (sym (size_brought (pos n) chunk))
-counted_of (negsuc n) chunk at = omega (arith, size_brought (negsuc n) chunk)
-
-goes_on_of : (z : ℤ) (chunk : List ℕ) (at : ℕ) → (progress_of z (length chunk) at).ended ≡ false → 0 < length (brought z chunk)
-goes_on_of (pos n) chunk at e =
-    let q = eqb-false (clamp_len (pos n) (length chunk)) 0 e in omega (arith, q, size_brought (pos n) chunk)
-goes_on_of (negsuc n) chunk at e = absurd (true≢false e)
-
-pub brings : (z : ℤ) (chunk kept after : List ℕ) (at : ℕ) (r : Progress) → r ≡ progress_of z (length chunk) at
-    → after ≡ sets kept at (take (length kept - at) (brought z chunk)) → Brings kept at after r
-brings z chunk kept after at r e k =
-    record {
-      chunk = brought z chunk;
-      counted = ap (λ (p : Progress). p.bytes) e ∙ counted_of z chunk at;
-      goes_on = λ d. goes_on_of z chunk at (sym (ap (λ (p : Progress). p.ended) e) ∙ d);
-      kept_behind = k;
-    }
 
 -- ---- one read after another
 
@@ -119,9 +43,9 @@ joined_kept k f c false e =
 pub none_kept : (kept : List ℕ) → Keeps kept kept 0
 none_kept kept = record { file = []; size = refl; kept_first = rw (take-nil {A = ℕ} (length kept)) refl }
 
-pub more_kept : (kept now after : List ℕ) (at : ℕ) (r : Progress) → Keeps kept now at → length now ≡ length kept → Brings now at after r
-    → Keeps kept after r.bytes
-more_kept kept now after at r k l b =
+pub more_kept : (kept now after : List ℕ) (at count : ℕ) → Keeps kept now at → length now ≡ length kept → BringsBytes now at after count
+    → Keeps kept after (at + count)
+more_kept kept now after at count k l b =
     record {
       file = k.file ++ b.chunk;
       size = omega (arith, b.counted, k.size, length-append k.file b.chunk);
@@ -132,13 +56,6 @@ more_kept kept now after at r k l b =
           ∙ ap (λ (m : List ℕ). sets m (length k.file) (take (length kept - length k.file) b.chunk)) k.kept_first
           ∙ joined_kept kept k.file b.chunk (ltb (length kept) (length k.file)) refl;
     }
-
-pub still_kept : (kept after : List ℕ) (at bytes : ℕ) → bytes ≡ at → Keeps kept after at → Keeps kept after bytes
-still_kept kept after at bytes e k = record { file = k.file; size = e ∙ k.size; kept_first = k.kept_first }
-
-pub comes_on : (most at : ℕ) (kept after : List ℕ) (r : Progress) → at < most → Brings kept at after r → r.ended ≡ false
-    → most - r.bytes < most - at
-comes_on most at kept after r h b e = let l = b.goes_on e in omega (arith, b.counted)
 
 -- ---- the file's words
 

@@ -1,12 +1,13 @@
 // Words read to the end of a file. Of a file longer than any job the first words are kept, one more than a job can have.
 #![tactic(auto)]
 
-ghost use Rattle.std.specs.Prelude.{◌≡◌, ◌-◌, ◌^◌, ◌≤◌, ◌<◌, ◌≤ℤ◌, pos, length, take};
+ghost use Rattle.std.specs.Prelude.{◌≡◌, ◌-◌, ◌≤◌, IfOk, length, take};
 ghost use Rattle.std.proofs.lemmas.List.Edits.{sets};
 ghost use Rattle.files.specs.Files as F;
 ghost use Rattle.input.specs.Read as R;
 ghost use Rattle.input.specs.Kept as K;
 
+use console::Failed;
 use std::fs::File;
 use std::io::{Error, ErrorKind, Read};
 use std::str;
@@ -15,6 +16,9 @@ use std::str;
 pub const KEPT_WORDS: usize = sequence::MOST_JOB_WORDS + 1;
 
 const KEPT_BYTES: usize = 4 * KEPT_WORDS;
+
+// How many bytes are read at a time.
+const CHUNK: usize = 4096;
 
 // More bytes than a file has.
 const MOST: usize = 4611686018427387904;
@@ -28,18 +32,17 @@ pub struct Input {
     pub failed: bool,
 }
 
-// How far reading has come: the bytes so far, whether the file has ended, and whether a read failed.
+// How many bytes were read, and whether a read failed behind them.
 #[derive(Clone, Copy)]
 struct Progress {
     bytes: usize,
-    ended: bool,
     failed: bool,
 }
 
 fn least(a: usize, b: usize) -> usize
     ensures { (result ≡ R.least a b) × (result ≤ a) × (result ≤ b) }
 {
-    if a < b { a } else { b }
+    a.min(b)
 }
 
 // Puts bytes behind those that are kept already, as far as there is room.
@@ -57,77 +60,62 @@ fn keep(chunk: &[u8], kept: &mut [u8], at: usize)
     text::put(&chunk[..room], kept, at);
 }
 
-// Takes what the system answered to a read: whether it failed, and else how many bytes of the chunk it brought.
-fn take_read(got: isize, chunk: &[u8], kept: &mut [u8], at: usize) -> Progress
-    requires { (at < 2 ^ 62) × (length chunk.now ≤ 4096) }
-    ensures progress { result ≡ K.progress_of got (length chunk.now) at }
-    ensures kept { kept.new ≡ sets kept.old at (take (length kept.old - at) (K.brought got chunk.now)) }
-{
-    if got < 0 {
-        return Progress {
-            bytes: at,
-            ended: true,
-            failed: true,
-        };
-    }
-    let n = least(got as usize, chunk.len());
-    keep(&chunk[..n], kept, at);
-    Progress {
-        bytes: at + n,
-        ended: n == 0,
-        failed: false,
-    }
-}
-
-// Reads into a chunk, and answers how many bytes came; or a negative number if the read failed, which it says by the reader's name.
-fn read_chunk<S: Read>(rt: &HostRuntime, reader: &mut S, name: &[u8], chunk: &mut [u8]) -> isize
-    requires { length chunk.old ≤ 4096 }
-    ensures { result ≤ℤ pos (length chunk.old) }
+// Reads into a chunk, and answers how many bytes came. A read that fails is said by the reader's name.
+fn read_chunk<S: Read>(
+    rt: &HostRuntime,
+    reader: &mut S,
+    name: &[u8],
+    chunk: &mut [u8],
+) -> Result<usize, Failed>
+    ensures { IfOk result (λ n. n ≤ length chunk.old) }
 {
     match reader.read(chunk) {
-        Ok(bytes) => bytes as isize,
+        Ok(bytes) => Ok(bytes),
         Err(why) => {
             console::fail(rt, name, why);
-            -1
+            Err(Failed)
         }
     }
 }
 
-// Reads once.
+// Reads once, and answers how many bytes came.
 fn read_some<S: Read>(
     rt: &HostRuntime,
     reader: &mut S,
     name: &[u8],
     kept: &mut [u8],
     at: usize,
-) -> Progress
-    requires { at < 2 ^ 62 }
-    ensures { K.Brings kept.old at kept.new result }
+) -> Result<usize, Failed>
+    ensures few { IfOk result (λ n. n ≤ 4096) }
+    ensures brings { K.Brings kept.old at kept.new result }
 {
-    let mut chunk = [0u8; 4096];
-    let got = read_chunk(rt, reader, name, &mut chunk);
-    take_read(got, &chunk, kept, at)
+    let mut chunk = [0u8; CHUNK];
+    let count = read_chunk(rt, reader, name, &mut chunk)?;
+    keep(&chunk[..count], kept, at);
+    Ok(count)
 }
 
 // Reads to the end of the file, or until a read fails.
 fn read_bytes<S: Read>(rt: &HostRuntime, reader: &mut S, name: &[u8], kept: &mut [u8]) -> Progress
     ensures { K.Keeps kept.old kept.new result.bytes }
 {
-    let mut now = Progress {
-        bytes: 0,
-        ended: false,
-        failed: false,
-    };
     let mut bytes = 0;
     while bytes < MOST {
-        let next = read_some(rt, reader, name, kept, bytes);
-        now = next;
-        if next.ended {
+        let Ok(count) = read_some(rt, reader, name, kept, bytes) else {
+            return Progress {
+                bytes,
+                failed: true,
+            };
+        };
+        if count == 0 {
             break;
         }
-        bytes = next.bytes;
+        bytes += count;
     }
-    now
+    Progress {
+        bytes,
+        failed: false,
+    }
 }
 
 // The words of the bytes that were kept, and what was read.

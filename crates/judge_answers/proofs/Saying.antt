@@ -10,8 +10,7 @@ use Rattle.lines.specs.Lines.{refusal_text, witness_text}
 use Rattle.verdict.specs.Verdicts.{Judged}
 use Rattle.verdict.specs.declared.Verdict.{Verdict}
 use Rattle.verdict.specs.declared.Verdict.TheVariants.{Right as IsRight, Wrong as IsWrong}
-use Rattle.verdict.specs.declared.Judgement.{Judgement}
-use Rattle.verdict.specs.declared.Judgement.TheVariants.{Decided, Refused as IsRefused}
+use Rattle.std.specs.Prelude.{Result, Ok, Err}
 use Rattle.judge_answers.specs.Everywhere.{JudgedEverywhere}
 use Rattle.judge_answers.specs.Lines.{judgement_text, everywhere_text, SaysAt, SaysEverywhere}
 use Rattle.judge_answers.specs.declared.Everywhere.{Everywhere}
@@ -21,20 +20,20 @@ module _ (out after : List ℕ) (at end : ℕ) where
   -- ---- a verdict and a judgement
 
   pub right_put : (v : Verdict) → v ≡ IsRight → Puts out at (bytes " RIGHT\n") after end
-      → Puts out at (judgement_text (Decided v)) after end
-  right_put v e p = subst (λ (x : Verdict). Puts out at (judgement_text (Decided x)) after end) (sym e) p
+      → Puts out at (judgement_text (Ok v)) after end
+  right_put v e p = subst (λ (x : Verdict). Puts out at (judgement_text (Ok x)) after end) (sym e) p
 
   pub wrong_put : (v : Verdict) (x : Witness) → v ≡ IsWrong x → Puts out at (bytes " WRONG" ++ witness_text x ++ bytes "\n") after end
-      → Puts out at (judgement_text (Decided v)) after end
-  wrong_put v x e p = subst (λ (y : Verdict). Puts out at (judgement_text (Decided y)) after end) (sym e) p
+      → Puts out at (judgement_text (Ok v)) after end
+  wrong_put v x e p = subst (λ (y : Verdict). Puts out at (judgement_text (Ok y)) after end) (sym e) p
 
-  pub verdict_put : (j : Judgement) (v : Verdict) → j ≡ Decided v → Puts out at (judgement_text (Decided v)) after end
+  pub verdict_put : (j : Result Verdict Refusal) (v : Verdict) → j ≡ Ok v → Puts out at (judgement_text (Ok v)) after end
       → Puts out at (judgement_text j) after end
-  verdict_put j v e p = subst (λ (x : Judgement). Puts out at (judgement_text x) after end) (sym e) p
+  verdict_put j v e p = subst (λ (x : Result Verdict Refusal). Puts out at (judgement_text x) after end) (sym e) p
 
-  pub refusal-put : (j : Judgement) (r : Refusal) → j ≡ IsRefused r → Puts out at (bytes " " ++ refusal_text r ++ bytes "\n") after end
+  pub refusal-put : (j : Result Verdict Refusal) (r : Refusal) → j ≡ Err r → Puts out at (bytes " " ++ refusal_text r ++ bytes "\n") after end
       → Puts out at (judgement_text j) after end
-  refusal-put j r e p = subst (λ (x : Judgement). Puts out at (judgement_text x) after end) (sym e) p
+  refusal-put j r e p = subst (λ (x : Result Verdict Refusal). Puts out at (judgement_text x) after end) (sym e) p
 
   -- ---- at every width
 
@@ -56,7 +55,7 @@ module _ (out after : List ℕ) (at end : ℕ) where
 -- ---- the line
 
 module _ (w : ℕ) (out between after : List ℕ) (at end : ℕ) (p : Puts out 0 (digits 16 8 w) between at) where
-  pub says_at : (n : ℕ) (j : Judgement) → Judged w n j → Puts between at (judgement_text j) after end → SaysAt w n out after end
+  pub says_at : (n : ℕ) (j : Result Verdict Refusal) → Judged w n j → Puts between at (judgement_text j) after end → SaysAt w n out after end
   unfolding hexadecimal
   says_at n j judged q = record { answer = j; judged = judged; text = after-put p q }
 

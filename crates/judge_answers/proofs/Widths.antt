@@ -5,7 +5,7 @@ use Prim.Native.Nat.{ℕ, ◌+◌, ◌≤◌, ◌<◌}
 use native.Mathlib.Omega.{arith}
 use lib.Dec.{eqb, ltb}
 use borrow.Author.Tests.{le-leb, le-ltb, ltb-true, ltb-false}
-use Rattle.std.specs.Prelude.{if◌then◌else◌}
+use Rattle.std.specs.Prelude.{if◌then◌else◌, Result, Ok, Err}
 use Rattle.words.specs.Field.{kind_of}
 use Rattle.words.specs.Kinds.{is_recipe}
 use Rattle.words.specs.Paper.{no_refusal}
@@ -18,8 +18,6 @@ use Rattle.binding.specs.declared.Claim.{Claim}
 use Rattle.verdict.specs.Verdicts.{Refuses, Decides, judge_of, Passes, Judged}
 use Rattle.verdict.specs.declared.Verdict.{Verdict}
 use Rattle.verdict.specs.declared.Verdict.TheVariants.{Right as IsRight, Wrong as IsWrong}
-use Rattle.verdict.specs.declared.Judgement.{Judgement}
-use Rattle.verdict.specs.declared.Judgement.TheVariants.{Decided, Refused as IsRefused}
 use Rattle.judge_answers.specs.Everywhere.{RightBelow, JudgedEverywhere}
 use Rattle.judge_answers.specs.declared.Everywhere.TheVariants.{Wrong, Refused}
 
@@ -29,37 +27,37 @@ width_of n l m = rw (le-ltb n 1 l, le-leb n 64 m) refl
 
 -- where both widths are widths, a refusal does not depend on them
 alike : (n : ℕ) (a b : Bool) (x y r : Refusal) (c : Claim)
-    → Passes (if a then Refuses x else if b then Refuses y else Decides c n) (IsRefused r)
-    → Passes (if a then Refuses x else if b then Refuses y else Decides c 1) (IsRefused r)
+    → Passes (if a then Refuses x else if b then Refuses y else Decides c n) (Err r)
+    → Passes (if a then Refuses x else if b then Refuses y else Decides c 1) (Err r)
 alike n true b x y r c p = p
 alike n false true x y r c p = p
 alike n false false x y r c p = p
 
-refused-alike : (w n : ℕ) (r : Refusal) → is_width n ≡ true → Judged w n (IsRefused r) → Judged w 1 (IsRefused r)
+refused-alike : (w n : ℕ) (r : Refusal) → is_width n ≡ true → Judged w n (Err r) → Judged w 1 (Err r)
 unfolding judge_of
 refused-alike w n r e p =
     rw (width_of 1 (omega arith) (omega arith))
     (alike n (not (is_recipe (kind_of w))) (not (eqb (recipe_fault w) no_refusal)) _ _ r (claim_of w) (rw e at p))
 
-module _ (w n : ℕ) (l : 1 ≤ n) (m : n ≤ 64) (j : Judgement) (p : Judged w n j) where
-  judged_as : (k : Judgement) → j ≡ k → Judged w n k
+module _ (w n : ℕ) (l : 1 ≤ n) (m : n ≤ 64) (j : Result Verdict Refusal) (p : Judged w n j) where
+  judged_as : (k : Result Verdict Refusal) → j ≡ k → Judged w n k
   judged_as k e = subst (Judged w n) e p
 
-  pub refused-everywhere : (r : Refusal) → j ≡ IsRefused r → JudgedEverywhere w (Refused r)
-  refused-everywhere r e = refused-alike w n r (width_of n l m) (judged_as (IsRefused r) e)
+  pub refused-everywhere : (r : Refusal) → j ≡ Err r → JudgedEverywhere w (Refused r)
+  refused-everywhere r e = refused-alike w n r (width_of n l m) (judged_as (Err r) e)
 
-  module _ (below : RightBelow w n) (v : Verdict) (e : j ≡ Decided v) where
+  module _ (below : RightBelow w n) (v : Verdict) (e : j ≡ Ok v) where
     pub wrong_first : (x : Witness) → v ≡ IsWrong x → JudgedEverywhere w (Wrong n x)
-    wrong_first x f = (l, m, below, judged_as (Decided (IsWrong x)) (e ∙ ap Decided f))
+    wrong_first x f = (l, m, below, judged_as (Ok (IsWrong x)) (e ∙ ap Ok f))
 
     pub right_more : v ≡ IsRight → RightBelow w (n + 1)
     right_more f k least less = go (ltb k n) refl
       where
-        go : (b : Bool) → ltb k n ≡ b → Judged w k (Decided IsRight)
+        go : (b : Bool) → ltb k n ≡ b → Judged w k (Ok IsRight)
         go true t = below k least (ltb-true k n t)
         go false t =
             let s : n ≡ k = omega (arith, ltb-false k n t) in
-            subst (λ (i : ℕ). Judged w i (Decided IsRight)) s (judged_as (Decided IsRight) (e ∙ ap Decided f))
+            subst (λ (i : ℕ). Judged w i (Ok IsRight)) s (judged_as (Ok IsRight) (e ∙ ap Ok f))
 
 pub right_at_none : (w : ℕ) → RightBelow w 1
 right_at_none w k least less = absurd (omega arith)

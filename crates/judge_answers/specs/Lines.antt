@@ -1,20 +1,20 @@
 -- The lines of judge_rule: the word, then RIGHT, or WRONG and where, or the refusal.
-use Rattle.std.specs.Prelude.{ℕ, List, ◌++◌}
+use Rattle.std.specs.Prelude.{ℕ, List, ◌++◌, Result, Ok, Err}
 use Rattle.text.specs.Text.{Puts, bytes, hexadecimal, labelled}
 use Rattle.lines.specs.Lines.{refusal_text, witness_text}
 use Rattle.verdict.specs.Verdicts.{Judged}
 use Rattle.verdict.specs.declared.Verdict.TheVariants.{Right as IsRight, Wrong as IsWrong}
-use Rattle.verdict.specs.declared.Judgement.{Judgement}
-use Rattle.verdict.specs.declared.Judgement.TheVariants.{Decided, Refused as IsRefused}
+use Rattle.verdict.specs.declared.Verdict.{Verdict}
+use Rattle.words.specs.declared.Refusal.{Refusal}
 use Rattle.judge_answers.specs.Everywhere.{JudgedEverywhere}
 use Rattle.judge_answers.specs.declared.Everywhere.{Everywhere}
 use Rattle.judge_answers.specs.declared.Everywhere.TheVariants.{Right, Wrong, Refused}
 
 -- what stands behind the word
-abbrev pub judgement_text : Judgement → List ℕ
-judgement_text (Decided IsRight) = bytes " RIGHT\n"
-judgement_text (Decided (IsWrong v)) = bytes " WRONG" ++ witness_text v ++ bytes "\n"
-judgement_text (IsRefused r) = bytes " " ++ refusal_text r ++ bytes "\n"
+abbrev pub judgement_text : Result Verdict Refusal → List ℕ
+judgement_text (Ok IsRight) = bytes " RIGHT\n"
+judgement_text (Ok (IsWrong v)) = bytes " WRONG" ++ witness_text v ++ bytes "\n"
+judgement_text (Err r) = bytes " " ++ refusal_text r ++ bytes "\n"
 
 -- at every width
 abbrev pub everywhere_text : Everywhere → List ℕ
@@ -24,7 +24,7 @@ everywhere_text (Refused r) = bytes " " ++ refusal_text r ++ bytes "\n"
 
 -- the line of a word judged at a width is put, at the start of lent bytes
 pub record SaysAt (w n : ℕ) (out after : List ℕ) (end : ℕ) : Type 0 where
-  pub answer : Judgement
+  pub answer : Result Verdict Refusal
   pub judged : Judged w n answer
   pub text : Puts out 0 (hexadecimal w ++ judgement_text answer) after end
 

@@ -1,16 +1,15 @@
 // What judge_rule says of a word: its judgement at a width, or at every width, as a line put into lent bytes.
 #![tactic(auto)]
 
-ghost use Rattle.std.specs.Prelude.{◌≤◌, length};
+ghost use Rattle.std.specs.Prelude.{◌≤◌, length, Ok, Err};
 ghost use Rattle.text.specs.Text as P;
 ghost use Rattle.lines.specs.Lines as L;
-ghost use Rattle.verdict.specs.declared.Judgement.TheVariants as J;
 ghost use Rattle.verdict.specs.declared.Verdict.TheVariants as D;
 ghost use Rattle.judge_answers.specs.declared.Everywhere.TheVariants as O;
 ghost use Rattle.judge_answers.specs.Everywhere as E;
 ghost use Rattle.judge_answers.specs.Lines as S;
 
-use verdict::{Judgement, Verdict};
+use verdict::Verdict;
 use words::{Refusal, Witness};
 
 // The answer at every width: right at all, wrong with the least width at which it is and operands there, or refused.
@@ -25,18 +24,16 @@ pub enum Everywhere {
 fn judge_everywhere(word: u32) -> Everywhere
     ensures { E.JudgedEverywhere word result }
 {
-    let mut width = 1;
-    while width <= 64 {
+    for width in 1..=64 {
         let judgement = verdict::judge(word, width);
         match judgement {
-            Judgement::Refused(refusal) => return Everywhere::Refused(refusal),
-            Judgement::Decided(verdict) => {
+            Err(refusal) => return Everywhere::Refused(refusal),
+            Ok(verdict) => {
                 if let Verdict::Wrong(witness) = verdict {
                     return Everywhere::Wrong(width, witness);
                 }
             }
         }
-        width += 1;
     }
     Everywhere::Right
 }
@@ -45,7 +42,7 @@ fn judge_everywhere(word: u32) -> Everywhere
 fn put_refused(refusal: Refusal, out: &mut [u8], at: usize) -> usize
     requires { (at ≤ 8) × (L.most_line_bytes ≤ length out.old) }
     ensures short { result ≤ L.most_line_bytes }
-    ensures text { P.Puts out.old at (S.judgement_text (J.Refused refusal)) out.new result }
+    ensures text { P.Puts out.old at (S.judgement_text (Err refusal)) out.new result }
 {
     let gap = text::put(b" ", out, at);
     let end = lines::put_refusal(refusal, out, gap);
@@ -56,7 +53,7 @@ fn put_refused(refusal: Refusal, out: &mut [u8], at: usize) -> usize
 fn put_wrong(witness: Witness, out: &mut [u8], at: usize) -> usize
     requires { (at ≤ 8) × (L.most_line_bytes ≤ length out.old) }
     ensures short { result ≤ L.most_line_bytes }
-    ensures text { P.Puts out.old at (S.judgement_text (J.Decided (D.Wrong witness))) out.new result }
+    ensures text { P.Puts out.old at (S.judgement_text (Ok (D.Wrong witness))) out.new result }
 {
     let label = text::put(b" WRONG", out, at);
     let end = lines::put_witness(witness, out, label);
@@ -78,7 +75,7 @@ fn put_wrong_width(width: u32, witness: Witness, out: &mut [u8], at: usize) -> u
 fn put_verdict(verdict: Verdict, out: &mut [u8], at: usize) -> usize
     requires { (at ≤ 8) × (L.most_line_bytes ≤ length out.old) }
     ensures short { result ≤ L.most_line_bytes }
-    ensures text { P.Puts out.old at (S.judgement_text (J.Decided verdict)) out.new result }
+    ensures text { P.Puts out.old at (S.judgement_text (Ok verdict)) out.new result }
 {
     match verdict {
         Verdict::Right => text::put(b" RIGHT\n", out, at),
@@ -87,14 +84,14 @@ fn put_verdict(verdict: Verdict, out: &mut [u8], at: usize) -> usize
 }
 
 // A judgement behind the word.
-fn put_judgement(judgement: Judgement, out: &mut [u8], at: usize) -> usize
+fn put_judgement(judgement: Result<Verdict, Refusal>, out: &mut [u8], at: usize) -> usize
     requires { (at ≤ 8) × (L.most_line_bytes ≤ length out.old) }
     ensures short { result ≤ L.most_line_bytes }
     ensures text { P.Puts out.old at (S.judgement_text judgement) out.new result }
 {
     match judgement {
-        Judgement::Decided(verdict) => put_verdict(verdict, out, at),
-        Judgement::Refused(refusal) => put_refused(refusal, out, at),
+        Ok(verdict) => put_verdict(verdict, out, at),
+        Err(refusal) => put_refused(refusal, out, at),
     }
 }
 

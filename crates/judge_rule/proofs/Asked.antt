@@ -3,7 +3,7 @@ use mathlib.Core.Path.{◌≡◌, refl, sym, subst}
 use mathlib.Core.List.{List}
 use Prim.Native.Nat.{ℕ}
 use Rattle.arguments.specs.declared.Widths.{Widths}
-use Rattle.arguments.specs.declared.Widths.TheVariants.{At, All, Neither}
+use Rattle.arguments.specs.declared.Widths.TheVariants.{At, All}
 use Rattle.judge_answers.specs.Lines.{SaysAt, SaysEverywhere}
 use Rattle.judge_rule.specs.Asked.{SaysAsked}
 
@@ -16,6 +16,3 @@ module _ (a : Widths) (w : ℕ) (out after : List ℕ) (end : ℕ) where
 
   pub all_asked : a ≡ All → SaysEverywhere w out after end → SaysAsked a w out after end
   all_asked e s = asked All e s
-
-pub none_asked : (a : Widths) (w : ℕ) (out : List ℕ) → a ≡ Neither → SaysAsked a w out out 0
-none_asked a w out e = asked a w out out 0 Neither e (record { ends = refl; put = refl })

@@ -8,7 +8,6 @@ ghost use Rattle.judge_rule.specs.Asked.{SaysAsked};
 
 use arguments::Widths;
 use lines::MOST_LINE_BYTES;
-use word_text::Found;
 
 // The line of a word.
 fn put_line(word: u32, widths: Widths, out: &mut [u8]) -> usize
@@ -19,7 +18,6 @@ fn put_line(word: u32, widths: Widths, out: &mut [u8]) -> usize
     match widths {
         Widths::At(width) => judge_answers::put_at(word, width, out),
         Widths::All => judge_answers::put_everywhere(word, out),
-        Widths::Neither => 0,
     }
 }
 
@@ -33,24 +31,17 @@ fn judge_word(rt: &HostRuntime, word: u32, widths: Widths) -> bool {
 // Judges each word, until the text is over or a line cannot be printed.
 fn judge_all(rt: &HostRuntime, widths: Widths) {
     let mut text = word_text::unread();
-    loop {
-        let taken = text.next(rt, b"judge_rule");
-        let found = taken.found;
-        let Found::Word(word) = found else {
-            return;
-        };
+    while let Some(word) = text.next(rt, b"judge_rule") {
         if !judge_word(rt, word, widths) {
             return;
         }
-        let rest = taken.text;
-        text = rest;
     }
 }
 
 // The widths that are asked for.
-fn asked_widths(rt: &HostRuntime) -> Widths {
+fn asked_widths(rt: &HostRuntime) -> Option<Widths> {
     if arguments::count(rt) != 2 {
-        return Widths::Neither;
+        return None;
     }
     let mut argument = [0u8; arguments::MOST_BYTES];
     let length = arguments::put_argument(rt, 1, &mut argument);
@@ -79,10 +70,8 @@ fn main(rt: HostRuntime) {
         help(&rt);
         return;
     }
-    let widths = asked_widths(&rt);
-    if let Widths::Neither = widths {
-        arguments::usage(&rt, &USAGE);
-        return;
+    match asked_widths(&rt) {
+        Some(widths) => judge_all(&rt, widths),
+        None => arguments::usage(&rt, &USAGE),
     }
-    judge_all(&rt, widths);
 }

@@ -17,9 +17,7 @@ fn print_line(rt: &HostRuntime, word: u32) {
 }
 
 fn main(rt: HostRuntime) {
-    let mut i = 0;
-    while i < 13 {
-        print_line(&rt, WORDS[i]);
-        i += 1;
+    for word in WORDS {
+        print_line(&rt, word);
     }
 }

@@ -7,46 +7,34 @@ ghost use Rattle.layout.specs.Layout as L;
 use alu::PortSet;
 use recipe::{Fields, from_scratch, source_of, unpack};
 
+#[tactic(auto, unfolding(crate::specs::Layout::is_logic))]
 fn is_logic(function: u32) -> bool
     ensures { result ≡ L.is_logic function }
 {
-    if function < 6 {
-        return false;
-    }
-    function <= 21
+    (6..=21).contains(&function)
 }
 
+#[tactic(auto, unfolding(crate::specs::Layout::scratch_laid_out))]
 fn scratch_laid_out(word: u32) -> bool
     ensures { result ≡ L.scratch_laid_out word }
 {
-    if !is_logic(source_of(word)) {
-        return false;
-    }
-    (word >> 4) & 0x3fff == 0
+    is_logic(source_of(word)) && (word >> 4) & 0x3fff == 0
 }
 
+#[tactic(auto, unfolding(crate::specs::Layout::target_laid_out))]
 fn target_laid_out(fields: Fields) -> bool
     ensures { result ≡ L.target_laid_out fields }
 {
-    if alu::FUNCTIONS < fields.target {
-        return false;
-    }
-    if 5 < fields.left {
-        return false;
-    }
-    if 5 < fields.right {
-        return false;
-    }
-    if fields.main == 3 {
-        return false;
-    }
-    if fields.cout == 3 {
-        return false;
-    }
-    fields.blank == 0
+    fields.target <= alu::FUNCTIONS
+        && fields.left <= 5
+        && fields.right <= 5
+        && fields.main != 3
+        && fields.cout != 3
+        && fields.blank == 0
 }
 
 // Whether the fields are as the layout says.
+#[tactic(auto, unfolding(crate::specs::Layout::laid_out))]
 pub fn laid_out(word: u32) -> bool
     ensures { result ≡ L.laid_out word }
 {
@@ -90,6 +78,7 @@ fn within(p: PortSet, q: PortSet) -> bool
     (!p.o0 | q.o0) & ((!p.ocout | q.ocout) & ((!p.ovf | q.ovf) & (!p.o1 | q.o1)))
 }
 
+#[tactic(auto, unfolding(crate::specs::Layout::reads_driven))]
 fn reads_driven(fields: Fields) -> bool
     ensures { result ≡ L.reads_driven fields }
 {
@@ -97,15 +86,14 @@ fn reads_driven(fields: Fields) -> bool
 }
 
 // Whether a recipe reads an output that its target does not drive: refusal 5.
+#[tactic(auto, unfolding(crate::specs::Layout::reads_undriven))]
 pub fn reads_undriven(word: u32) -> bool
     ensures { result ≡ L.reads_undriven word }
 {
-    if from_scratch(word) {
-        return false;
-    }
-    !reads_driven(unpack(word))
+    !from_scratch(word) && !reads_driven(unpack(word))
 }
 
+#[tactic(auto, unfolding(crate::specs::Layout::shows_source))]
 fn shows_source(fields: Fields) -> bool
     ensures { result ≡ L.shows_source fields }
 {
@@ -115,16 +103,15 @@ fn shows_source(fields: Fields) -> bool
 }
 
 // Whether a recipe's outputs are not exactly its source function's ports: refusal 6.
+#[tactic(auto, unfolding(crate::specs::Layout::shows_other))]
 pub fn shows_other(word: u32) -> bool
     ensures { result ≡ L.shows_other word }
 {
-    if from_scratch(word) {
-        return false;
-    }
-    !shows_source(unpack(word))
+    !from_scratch(word) && !shows_source(unpack(word))
 }
 
 // The refusal of a recipe word, 3, 5 or 6, or none.
+#[tactic(auto, unfolding(crate::specs::Layout::recipe_fault))]
 pub fn recipe_fault(word: u32) -> u32
     ensures { result ≡ L.recipe_fault word }
 {

@@ -54,10 +54,8 @@ pub fn put_mapping(words: &[u32], out: &mut [u8]) -> usize
     }
     let last = words.len() - 1;
     let mut at = 0;
-    let mut i = reader::BINDINGS_START;
-    while i < last {
+    for i in reader::BINDINGS_START..last {
         at = binding_line(words[i], out, at);
-        i += 1;
     }
     glue_line(words::content_of(words[last]), out, at)
 }

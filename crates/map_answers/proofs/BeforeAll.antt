@@ -5,11 +5,11 @@ use mathlib.Core.List.{List}
 use Prim.Native.Nat.{ℕ}
 use Rattle.words.specs.Paper.{refusal}
 use Rattle.input.specs.declared.Input.{Input}
-use Rattle.mapper.specs.declared.Answer.TheVariants.{Refused}
+use Rattle.std.specs.Prelude.{Err}
 use Rattle.map_answers.specs.Answers.{job_answer, job_lent}
 
 module _ (job lent : List ℕ) (input : Input) (cut : input.cut ≡ true) where
-  pub cut-before_all : job_answer job input lent ≡ Refused (refusal 2 input.whole)
+  pub cut-before_all : job_answer job input lent ≡ Err (refusal 2 input.whole)
   unfolding job_answer
   cut-before_all = rw cut refl
 

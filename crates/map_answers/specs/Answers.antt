@@ -1,39 +1,38 @@
 -- What map_job says of what it read: document 01, "prints, per binding, ..; then the count. A refusal prints only REFUSED, number and place
 -- in decimal; a last word cut short is 2 at its index, before all else." An input that could not be read is said to have failed.
-use Rattle.std.specs.Prelude.{ℕ, ◌≡◌, Bool, true, false, List, take, if◌then◌else◌}
+use Rattle.std.specs.Prelude.{ℕ, ◌≡◌, Bool, true, false, List, take, if◌then◌else◌, Result, Ok, Err}
 use Rattle.words.specs.Paper.{refusal}
 use Rattle.text.specs.Text.{Puts}
 use Rattle.listing.specs.Listing.{mapped_text}
 use Rattle.lines.specs.Lines.{refused_line}
 use Rattle.input.specs.declared.Input.{Input}
 use Rattle.mapper.specs.Mapping.{answer_of, lent_after_map}
-use Rattle.mapper.specs.declared.Answer.{Answer}
-use Rattle.mapper.specs.declared.Answer.TheVariants.{Mapping, Refused}
+use Rattle.words.specs.declared.Refusal.{Refusal}
 use Rattle.map_answers.specs.declared.Said.{Said}
 
 -- ---- the text of an answer
 
 -- the mapper's answer, with the words lent to it as they are after it
-abbrev pub map_text : Answer → List ℕ → List ℕ
-map_text (Mapping n) lent = mapped_text (take n lent)
-map_text (Refused r) lent = refused_line r
+abbrev pub map_text : Result ℕ Refusal → List ℕ → List ℕ
+map_text (Ok n) lent = mapped_text (take n lent)
+map_text (Err r) lent = refused_line r
 
 -- how many words of a mapping it wrote
-abbrev pub words_written : Answer → ℕ
-words_written (Mapping n) = n
-words_written (Refused r) = 0
+abbrev pub words_written : Result ℕ Refusal → ℕ
+words_written (Ok n) = n
+words_written (Err r) = 0
 
 -- ---- the answer to an input: the words that were kept of a job, and what was read
 
-unfoldable pub job_answer : List ℕ → Input → List ℕ → Answer
-job_answer job input lent = if input.cut then Refused (refusal 2 input.whole) else answer_of job lent
+unfoldable pub job_answer : List ℕ → Input → List ℕ → Result ℕ Refusal
+job_answer job input lent = if input.cut then Err (refusal 2 input.whole) else answer_of job lent
 
 -- the lent words afterwards
 unfoldable pub job_lent : List ℕ → Input → List ℕ → List ℕ
 job_lent job input lent = if input.cut then lent else lent_after_map job lent
 
 -- the text of an answer is put, and how many words of a mapping it wrote is said
-pub record SaysAnswer (a : Answer) (lent out after : List ℕ) (r : Said) : Type 0 where
+pub record SaysAnswer (a : Result ℕ Refusal) (lent out after : List ℕ) (r : Said) : Type 0 where
   pub read : r.failed ≡ false
   pub text : Puts out 0 (map_text a lent) after r.bytes
   pub words : r.words ≡ words_written a

@@ -7,7 +7,6 @@ ghost use Rattle.map_answers.specs.Answers as S;
 ghost use Rattle.map_answers.specs.Asked as Q;
 
 use input::Input;
-use mapper::Answer;
 use words::Refusal;
 
 // The most bytes of a text: a line for each word of a mapping, and room for the longest line.
@@ -23,12 +22,12 @@ pub struct Said {
 }
 
 // The answer to a job that was read: a last word cut short comes before all else.
-fn map_file(job: &[u32], input: Input, lent: &mut [u32]) -> Answer
+fn map_file(job: &[u32], input: Input, lent: &mut [u32]) -> Result<usize, Refusal>
     ensures answer { result ≡ S.job_answer job.now input lent.old }
     ensures written { lent.new ≡ S.job_lent job.now input lent.old }
 {
     if input.cut {
-        return Answer::Refused(Refusal {
+        return Err(Refusal {
             number: 2,
             place: input.whole,
         });
@@ -37,13 +36,13 @@ fn map_file(job: &[u32], input: Input, lent: &mut [u32]) -> Answer
 }
 
 // The text of the mapper's answer, with the words that it wrote.
-fn put_answer(answer: Answer, lent: &[u32], out: &mut [u8]) -> Said
+fn put_answer(answer: Result<usize, Refusal>, lent: &[u32], out: &mut [u8]) -> Said
     requires { Q.RoomFor answer lent.now out.old }
     ensures fits { (result.bytes ≤ length out.old) × (result.words ≤ length lent.now) }
     ensures said { S.SaysAnswer answer lent.now out.old out.new result }
 {
     match answer {
-        Answer::Mapping(count) => {
+        Ok(count) => {
             let bytes = listing::put_mapping(&lent[..count], out);
             Said {
                 failed: false,
@@ -51,7 +50,7 @@ fn put_answer(answer: Answer, lent: &[u32], out: &mut [u8]) -> Said
                 words: count,
             }
         }
-        Answer::Refused(refusal) => {
+        Err(refusal) => {
             let bytes = lines::refused_line(refusal, out);
             Said {
                 failed: false,

@@ -1,10 +1,9 @@
 -- The mapper's answer and the lent words, from the choice.
 use mathlib.Core.Path.{◌≡◌, refl, sym, ap, ◌∙◌, subst}
-use mathlib.Core.Bool.{true, false, not}
+use mathlib.Core.Bool.{true, false}
 use mathlib.Core.List.{List, [], ◌++◌}
 use Prim.Native.Nat.{ℕ, ◌+◌, ◌^◌, ◌<◌, ◌≤◌}
 use native.Mathlib.Omega.{arith}
-use borrow.Author.Tests.{not-true, not-false}
 use lib.ListN.{length, take, drop, length-drop}
 use lib.Seq.{length-take-le}
 use Rattle.bits.specs.Asked.{Width}
@@ -15,8 +14,7 @@ use Rattle.sequence.specs.Limits.{most_sources, most_rules}
 use Rattle.reader.specs.Starts.{sources_start, rules_start}
 use Rattle.reader.specs.Job.{job_of, WellFormedJob}
 use Rattle.reader.specs.declared.Job.{Job}
-use Rattle.reader.specs.declared.JobRead.{JobRead}
-use Rattle.reader.specs.declared.JobRead.TheVariants as read
+use Rattle.std.specs.Prelude.{Result, Ok, Err}
 use Rattle.wellformed.proofs.JobWords.{JobFacts, well_formed}
 use Rattle.table.specs.Parts.{sources_of, targets_of, rules_of, terms_with}
 use Rattle.glue.specs.Glue.{glue}
@@ -24,14 +22,10 @@ use Rattle.tally.specs.Parts.{set_count}
 use Rattle.tally.proofs.Joining.{price_is_glue}
 use Rattle.writer.specs.Asked.{Writable}
 use Rattle.writer.specs.Write.{mapping_words, written_of, lent_after}
-use Rattle.writer.specs.declared.Written.{Written}
-use Rattle.writer.specs.declared.Written.TheVariants as written
-use Rattle.choice.specs.Choose.{Choice, Mapped, Unmappable, choose}
-use Rattle.choice.specs.Chosen.{KeptChoice, WritableChoice}
+use Rattle.choice.specs.Choose.{choose}
+use Rattle.choice.specs.Chosen.{KeptChoice, WritableChoice, kept_as}
 use Rattle.mapper.specs.Mapping.{book_of, choice_of, chosen_words, answer_to, answer_for, answer_of, lent_to, lent_for, lent_after_map}
 use Rattle.choice.specs.declared.Chosen.{Chosen}
-use Rattle.mapper.specs.declared.Answer.{Answer}
-use Rattle.mapper.specs.declared.Answer.TheVariants.{Mapping, Refused}
 
 -- ---- the parts of a job's words
 
@@ -67,7 +61,7 @@ module _ (ws : List ℕ) (job : Job) (e : WellFormedJob ws job) where
     rules_few n h = omega (arith, ap length er, rules_length)
 
     pub kept_choice : (bs : List ℕ) → bs ≡ book_of job
-        → (c : Chosen) → KeptChoice c (length ss) (choose (terms_with job ss ts) (rs ++ bs) [] ss)
+        → (c : Result Chosen ℕ) → KeptChoice c (length ss) (choose (terms_with job ss ts) (rs ++ bs) [] ss)
         → KeptChoice c job.sources (choice_of ws job)
     kept_choice bs eb c k =
         subst (λ (m : ℕ). KeptChoice c m (choice_of ws job)) (ap length es ∙ sources_length)
@@ -98,70 +92,58 @@ module _ (job : Job) (c : Chosen) (b : WritableChoice job c) where
     chosen_written lent after ea =
         ea ∙ ap (λ (x : ℕ). lent_after (mapping_words job.width (take job.sources c.words) x) lent) count_is
 
-  pub chosen_answer : (r : Written) (lent : List ℕ) → r ≡ written_of (length (take job.sources c.words)) lent → r ≡ written_of job.sources lent
+  pub chosen_answer : (r : Result ℕ Refusal) (lent : List ℕ) → r ≡ written_of (length (take job.sources c.words)) lent → r ≡ written_of job.sources lent
   chosen_answer r lent er = er ∙ ap (λ (x : ℕ). written_of x lent) (sym bound_length)
 
 -- ---- the answer
 
-module _ (ws : List ℕ) (job : Job) (e : WellFormedJob ws job) (c : Chosen) (k : KeptChoice c job.sources (choice_of ws job)) (lent : List ℕ) where
-  unmapped : not c.mapped ≡ true → choice_of ws job ≡ Unmappable c.unmappable
-  unmapped h = sym k.same ∙ rw (not-true c.mapped h) refl
+module _ (ws : List ℕ) (job : Job) (e : WellFormedJob ws job) (d : Result Chosen ℕ) (k : KeptChoice d job.sources (choice_of ws job)) (lent : List ℕ) where
+  choice_is : (x : Result Chosen ℕ) → d ≡ x → kept_as x job.sources ≡ choice_of ws job
+  choice_is x u = ap (λ (y : Result Chosen ℕ). kept_as y job.sources) (sym u) ∙ k.same
 
-  pub unmapped_answer : not c.mapped ≡ true → Refused (refusal 12 c.unmappable) ≡ answer_to (choice_of ws job) lent
-  unmapped_answer h = sym (ap (λ (x : Choice). answer_to x lent) (unmapped h))
+  module _ (f : ℕ) (u : d ≡ Err f) where
+    pub unmapped_answer : Err (refusal 12 f) ≡ answer_to (choice_of ws job) lent
+    unmapped_answer = ap (λ (x : Result (List ℕ) ℕ). answer_to x lent) (choice_is (Err f) u)
 
-  pub unmapped_lent : not c.mapped ≡ true → lent ≡ lent_to job (choice_of ws job) lent
-  unmapped_lent h = sym (ap (λ (x : Choice). lent_to job x lent) (unmapped h))
+    pub unmapped_lent : lent ≡ lent_to job (choice_of ws job) lent
+    unmapped_lent = ap (λ (x : Result (List ℕ) ℕ). lent_to job x lent) (choice_is (Err f) u)
 
-  module _ (h : not c.mapped ≡ false) where
+  module _ (c : Chosen) (u : d ≡ Ok c) where
     pub ready : WritableChoice job c
     ready =
-        record {
-          width = job_width ws job e;
-          few = few_sources ws job e;
-          size = k.size;
-          uses = k.uses (not-false c.mapped h);
-        }
+        let q : KeptChoice (Ok c) job.sources (choice_of ws job) =
+        subst (λ (x : Result Chosen ℕ). KeptChoice x job.sources (choice_of ws job)) u k
+        in record { width = job_width ws job e; few = few_sources ws job e; size = q.size; uses = q.uses }
 
-    mapped : choice_of ws job ≡ Mapped (take job.sources c.words)
-    mapped = sym k.same ∙ rw (not-false c.mapped h) refl
-
-    answered : answer_to (choice_of ws job) lent ≡ answer_to (Mapped (take job.sources c.words)) lent
-    answered = ap (λ (x : Choice). answer_to x lent) mapped
+    answered : answer_to (choice_of ws job) lent ≡ answer_to (Ok (take job.sources c.words)) lent
+    answered = sym (ap (λ (x : Result (List ℕ) ℕ). answer_to x lent) (choice_is (Ok c) u))
 
     pub mapped_lent : (after : List ℕ) → after ≡ lent_after (chosen_words job (take job.sources c.words)) lent
         → after ≡ lent_to job (choice_of ws job) lent
-    mapped_lent after ea = ea ∙ sym (ap (λ (x : Choice). lent_to job x lent) mapped)
+    mapped_lent after ea = ea ∙ ap (λ (x : Result (List ℕ) ℕ). lent_to job x lent) (choice_is (Ok c) u)
 
-    module _ (r : Written) (er : r ≡ written_of job.sources lent) where
-      written_is : written_of (length (take job.sources c.words)) lent ≡ r
-      written_is = ap (λ (x : ℕ). written_of x lent) (sym (bound_length job c ready)) ∙ sym er
-
-      pub mapped_answer : (n : ℕ) → r ≡ written.Words n → Mapping n ≡ answer_to (choice_of ws job) lent
-      mapped_answer n u = sym (answered ∙ rw (written_is ∙ u) refl)
-
-      pub short_answer : (x : Refusal) → r ≡ written.Refused x → Refused x ≡ answer_to (choice_of ws job) lent
-      short_answer x u = sym (answered ∙ rw (written_is ∙ u) refl)
+    pub mapped_answer : (r : Result ℕ Refusal) → r ≡ written_of job.sources lent → r ≡ answer_to (choice_of ws job) lent
+    mapped_answer r er = er ∙ ap (λ (x : ℕ). written_of x lent) (bound_length job c ready) ∙ sym answered
 
 -- ---- the job's own refusals
 
-module _ (ws : List ℕ) (r : JobRead) (er : r ≡ job_of ws) (lent : List ℕ) where
-  pub job_refused : (x : Refusal) → r ≡ read.Refused x → Refused x ≡ answer_of ws lent
+module _ (ws : List ℕ) (r : Result Job Refusal) (er : r ≡ job_of ws) (lent : List ℕ) where
+  pub job_refused : (x : Refusal) → r ≡ Err x → Err x ≡ answer_of ws lent
   unfolding answer_of
   job_refused x u = rw (sym er ∙ u) refl
 
-  pub job_refused_lent : (x : Refusal) → r ≡ read.Refused x → lent ≡ lent_after_map ws lent
+  pub job_refused_lent : (x : Refusal) → r ≡ Err x → lent ≡ lent_after_map ws lent
   unfolding lent_after_map
   job_refused_lent x u = rw (sym er ∙ u) refl
 
-  module _ (job : Job) (u : r ≡ read.Accepted job) where
+  module _ (job : Job) (u : r ≡ Ok job) where
     pub job_read : WellFormedJob ws job
     job_read = sym er ∙ u
 
-    pub job_answered : (a : Answer) → a ≡ answer_to (choice_of ws job) lent → a ≡ answer_of ws lent
+    pub job_answered : (a : Result ℕ Refusal) → a ≡ answer_to (choice_of ws job) lent → a ≡ answer_of ws lent
     unfolding answer_of
-    job_answered a ea = ea ∙ sym (ap (λ (x : JobRead). answer_for ws x lent) (sym er ∙ u))
+    job_answered a ea = ea ∙ sym (ap (λ (x : Result Job Refusal). answer_for ws x lent) (sym er ∙ u))
 
     pub job_lent_lem : (after : List ℕ) → after ≡ lent_to job (choice_of ws job) lent → after ≡ lent_after_map ws lent
     unfolding lent_after_map
-    job_lent_lem after ea = ea ∙ sym (ap (λ (x : JobRead). lent_for ws x lent) (sym er ∙ u))
+    job_lent_lem after ea = ea ∙ sym (ap (λ (x : Result Job Refusal). lent_for ws x lent) (sym er ∙ u))

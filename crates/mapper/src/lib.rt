@@ -9,20 +9,12 @@ ghost use Rattle.mapper.specs.Mapping as M;
 
 use book::BOOK;
 use choice::Chosen;
-use reader::{Job, JobRead};
+use reader::Job;
 use words::Refusal;
-use writer::Written;
-
-// The number of words written, or the refusal: the job's 1 to 6, 12, then 23.
-#[derive(Clone, Copy)]
-pub enum Answer {
-    Mapping(usize),
-    Refused(Refusal),
-}
 
 // The choice for a job that was read. Its rules are a part of its words that begins after its tables; the book, if it asks for it, stands
 // behind them.
-fn choice_of(job: Job, words: &[u32]) -> Chosen
+fn choice_of(job: Job, words: &[u32]) -> Result<Chosen, u32>
     requires { J.WellFormedJob words.now job }
     ensures { K.KeptChoice result job.sources (M.choice_of words.now job) }
 {
@@ -36,7 +28,7 @@ fn choice_of(job: Job, words: &[u32]) -> Chosen
 }
 
 // Writes the mapping that binds by the chosen rules.
-fn write_chosen(job: Job, chosen: Chosen, lent: &mut [u32]) -> Written
+fn write_chosen(job: Job, chosen: Chosen, lent: &mut [u32]) -> Result<usize, Refusal>
     requires { K.WritableChoice job chosen }
     ensures answer { result ≡ W.written_of job.sources lent.old }
     ensures written { lent.new ≡ W.lent_after (M.chosen_words job (take job.sources chosen.words)) lent.old }
@@ -50,33 +42,26 @@ fn write_chosen(job: Job, chosen: Chosen, lent: &mut [u32]) -> Written
 }
 
 // The mapping of a job that was read: 12 comes before 23.
-fn map_read(job: Job, words: &[u32], lent: &mut [u32]) -> Answer
+fn map_read(job: Job, words: &[u32], lent: &mut [u32]) -> Result<usize, Refusal>
     requires { J.WellFormedJob words.now job }
     ensures answer { result ≡ M.answer_to (M.choice_of words.now job) lent.old }
     ensures written { lent.new ≡ M.lent_to job (M.choice_of words.now job) lent.old }
 {
-    let chosen = choice_of(job, words);
-    if !chosen.mapped {
-        return Answer::Refused(Refusal {
+    match choice_of(job, words) {
+        Err(function) => Err(Refusal {
             number: 12,
-            place: chosen.unmappable as usize,
-        });
-    }
-    let written = write_chosen(job, chosen, lent);
-    match written {
-        Written::Words(n) => Answer::Mapping(n),
-        Written::Refused(refusal) => Answer::Refused(refusal),
+            place: function as usize,
+        }),
+        Ok(chosen) => write_chosen(job, chosen, lent),
     }
 }
 
-// Maps a job into lent words. Refused, it leaves every lent word as it was.
-pub fn map(words: &[u32], lent: &mut [u32]) -> Answer
+// Maps a job into lent words, and answers how many words it wrote; or the job's refusal, 1 to 6, 12, then 23. Refused, it leaves every lent word
+// as it was.
+pub fn map(words: &[u32], lent: &mut [u32]) -> Result<usize, Refusal>
     ensures answer { result ≡ M.answer_of words.now lent.old }
     ensures written { lent.new ≡ M.lent_after_map words.now lent.old }
 {
-    let read = reader::read_job(words);
-    match read {
-        JobRead::Refused(refusal) => Answer::Refused(refusal),
-        JobRead::Accepted(job) => map_read(job, words, lent),
-    }
+    let job = reader::read_job(words)?;
+    map_read(job, words, lent)
 }

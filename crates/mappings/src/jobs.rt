@@ -1,4 +1,5 @@
 // Jobs whose mapping is known, besides document 01's.
+use testing::words::word_of;
 
 // The bit of a job's header that asks for the book.
 pub const BOOK_BIT: u32 = 0x80;
@@ -48,14 +49,11 @@ pub fn largest() -> [u32; 568] {
     let mut words = [0x50894960u32; 568];
     words[0] = 0x10000040;
     words[1] = 0x20FFFFFF;
-    let mut function: u32 = 1;
-    let mut place = 1;
-    while place < 28 {
-        words[place + 1] = testing::words::word_of(3, function);
-        words[place + 28] = testing::words::word_of(4, function);
-        words[place + 540] = testing::words::word_of(5, function);
-        function = std::num::wrapping_add_u32(function, 1);
-        place += 1;
+    for function in 1..28 {
+        let place = function as usize;
+        words[place + 1] = word_of(3, function);
+        words[place + 28] = word_of(4, function);
+        words[place + 540] = word_of(5, function);
     }
     words
 }

@@ -9,10 +9,10 @@ mod jobs;
 mod random;
 mod show;
 
-use compare::{BOOK_JOBS, JOBS, KNOWN, TRIED, report_random};
+use compare::report_random;
 use jobs::{
-    BOOK_BIT, BOOK_EQUAL_GLUE, BOOK_JOB, BOOK_NEITHER, BOOK_NO_RULE, BOOK_TARGET_MISSING,
-    EQUAL_GLUE, EQUAL_GLUE_REVERSED, NEITHER, NO_RULE, PRINTED_RULE_ONLY, TARGET_MISSING,
+    BOOK_EQUAL_GLUE, BOOK_JOB, BOOK_NEITHER, BOOK_NO_RULE, BOOK_TARGET_MISSING, EQUAL_GLUE,
+    EQUAL_GLUE_REVERSED, NEITHER, NO_RULE, PRINTED_RULE_ONLY, TARGET_MISSING,
 };
 use show::mapped;
 use testing::words::{first, put};
@@ -117,20 +117,5 @@ fn main(rt: HostRuntime) {
         0x10000081,
         56,
     );
-    report_random(&rt, b"widths 1 to 4, ", &TRIED, &JOBS, 0);
-    report_random(&rt, b"widths 5 to 64, ", &KNOWN, &JOBS, 0);
-    report_random(
-        &rt,
-        b"the book, widths 1 to 4, ",
-        &TRIED,
-        &BOOK_JOBS,
-        BOOK_BIT,
-    );
-    report_random(
-        &rt,
-        b"the book, widths 5 to 64, ",
-        &KNOWN,
-        &BOOK_JOBS,
-        BOOK_BIT,
-    );
+    report_random(&rt);
 }

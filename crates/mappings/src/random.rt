@@ -2,23 +2,29 @@
 // have a field drawn anew.
 use reference::recipe::fields_of;
 use reference::trial::next;
-use rulings::known::known_rule;
+use rulings::known::known_rules;
 use std::num::{wrapping_add_usize, wrapping_sub_usize};
 use testing::words::{at, content, put, word_of};
 
-// The shapes of jobs, by the index of the name.
-pub const NAMES: [u8; 90] =
-    *b"some rules|prices 0, where all rules tie|no rules|27 sources|512 or 513 rules|a bit turned";
+// What a job is like. The seed of its jobs is its place among these.
+#[derive(Clone, Copy, PartialEq, Eq)]
+pub enum Shape {
+    SomeRules,
+    Prices0,
+    NoRules,
+    AllSources,
+    ManyRules,
+    BitTurned,
+}
 
-const PRICES_0: u32 = 1;
-
-const NO_RULES: u32 = 2;
-
-const ALL_SOURCES: u32 = 3;
-
-const MANY_RULES: u32 = 4;
-
-const BIT_TURNED: u32 = 5;
+pub const SHAPES: [(Shape, &[u8]); 6] = [
+    (Shape::SomeRules, b"some rules"),
+    (Shape::Prices0, b"prices 0, where all rules tie"),
+    (Shape::NoRules, b"no rules"),
+    (Shape::AllSources, b"27 sources"),
+    (Shape::ManyRules, b"512 or 513 rules"),
+    (Shape::BitTurned, b"a bit turned"),
+];
 
 // Prices at which some cost nothing, or as much as can be; and document 01's.
 const PRICES: [u32; 8] = [
@@ -50,7 +56,7 @@ fn redrawn(x: u64, rule: u32) -> u32 {
 fn rule_from(x: u64, source: u32, n: u32) -> u32 {
     let any = (x / 4 % 27 + 1) as u32;
     let function = if x % 4 == 0 { any } else { source };
-    let rule = known_rule(function, (x / 128 % 9 % 5) as u32);
+    let rule = known_rules(function)[(x / 128 % 9 % 5) as usize];
     if (n < 5) & (x / 2048 % 4 == 0) {
         return redrawn(x / 8192, rule);
     }
@@ -71,13 +77,11 @@ fn set_from(x: u64, amount: u64) -> u64 {
 fn put_table(words: &mut [u32], from: usize, kind: u32, set: u64) -> usize {
     let mut rest = set;
     let mut end = from;
-    let mut function = 1;
-    while function < 28 {
+    for function in 1..28 {
         // Where it is not in the set, the next word stands in its place.
         put(words, end, word_of(kind, function));
         end = wrapping_add_usize(end, (rest % 2) as usize);
         rest = rest / 2;
-        function += 1;
     }
     end
 }
@@ -90,29 +94,27 @@ fn source_at(words: &[u32], sources: usize, i: usize) -> u32 {
 // Rules from an index on to before another.
 fn put_rules(words: &mut [u32], from: usize, end: usize, sources: usize, n: u32, random: u64) {
     let mut x = random;
-    let mut i = from;
-    while i < end {
+    for i in from..end {
         let rule = rule_from(x, source_at(words, sources, i), n);
         put(words, i, rule);
         x = next(x);
-        i += 1;
     }
 }
 
 // How many rules a job of so many sources has.
-fn rule_count(shape: u32, sources: usize, x: u64) -> usize {
-    if shape == NO_RULES {
-        return 0;
+fn rule_count(shape: Shape, sources: usize, x: u64) -> usize {
+    match shape {
+        Shape::NoRules => 0,
+        Shape::ManyRules => 512 + (x % 8 / 7) as usize,
+        _ => {
+            let some = sources % 32 * 3;
+            wrapping_add_usize(some, below(x, some))
+        }
     }
-    if shape == MANY_RULES {
-        return 512 + (x % 8 / 7) as usize;
-    }
-    let some = sources % 32 * 3;
-    wrapping_add_usize(some, below(x, some))
 }
 
-fn prices_from(shape: u32, x: u64) -> u32 {
-    if shape == PRICES_0 {
+fn prices_from(shape: Shape, x: u64) -> u32 {
+    if shape == Shape::Prices0 {
         return 0;
     }
     if x % 2 == 0 {
@@ -129,15 +131,15 @@ fn turn_bit(words: &mut [u32], end: usize, b: bool, x: u64) {
 }
 
 // Header, prices and sources, of which there is one at least; the index after them.
-fn put_sources(words: &mut [u32], shape: u32, n: u32, x: u64) -> usize {
+fn put_sources(words: &mut [u32], shape: Shape, n: u32, x: u64) -> usize {
     put(words, 0, 0x1000_0000 | n);
     put(words, 1, 0x2000_0000 | prices_from(shape, next(x)));
-    let amount = if shape == ALL_SOURCES { 5 } else { 1 };
+    let amount = if shape == Shape::AllSources { 5 } else { 1 };
     put_table(words, 2, 3, set_from(x, amount) | (1u64 << (x % 27)))
 }
 
 // A job of a shape at a width; how many words it has. Above width 4 a turned bit is none of the rules', whose rightness is known.
-pub fn put_job(words: &mut [u32], shape: u32, n: u32, random: u64) -> usize {
+pub fn put_job(words: &mut [u32], shape: Shape, n: u32, random: u64) -> usize {
     let targets = put_sources(words, shape, n, next(random));
     let sources = wrapping_sub_usize(targets, 2);
     let rules = put_table(words, targets, 4, set_from(random, random >> 61));
@@ -146,6 +148,6 @@ pub fn put_job(words: &mut [u32], shape: u32, n: u32, random: u64) -> usize {
     let size = wrapping_add_usize(rules, rule_count(shape, sources, x));
     put_rules(words, rules, size, sources, n, next(x));
     let end = if n < 5 { size } else { rules };
-    turn_bit(words, end, shape == BIT_TURNED, x);
+    turn_bit(words, end, shape == Shape::BitTurned, x);
     size
 }

@@ -3,7 +3,6 @@
 
 ghost use Rattle.std.specs.Prelude.{◌≡◌, ◌≤◌, length};
 ghost use Rattle.reader.specs.Job as J;
-ghost use Rattle.sequence.specs.Limits.{most_sources, most_targets};
 ghost use Rattle.opening.specs.Opening as O;
 
 use reader::Job;
@@ -46,22 +45,12 @@ pub fn tables_of_zeros() -> Tables
     tables_with(NO_JOB, [0u32; MOST_SOURCES], [0u32; MOST_TARGETS])
 }
 
-// A table of these sources, with NOTHING past them.
-fn sources_table(words: &[u32]) -> [u32; MOST_SOURCES]
-    requires { length words.now ≤ most_sources }
-    ensures { result ≡ O.table_of most_sources words.now }
+// A table of these words, with NOTHING past them.
+fn table_of<const ENTRIES: usize>(words: &[u32]) -> [u32; ENTRIES]
+    requires { length words.now ≤ ENTRIES }
+    ensures { result ≡ O.table_of ENTRIES words.now }
 {
-    let mut table = [NOTHING; MOST_SOURCES];
-    soundness::copy(words, &mut table, 0);
-    table
-}
-
-// The same of targets.
-fn targets_table(words: &[u32]) -> [u32; MOST_TARGETS]
-    requires { length words.now ≤ most_targets }
-    ensures { result ≡ O.table_of most_targets words.now }
-{
-    let mut table = [NOTHING; MOST_TARGETS];
+    let mut table = [NOTHING; ENTRIES];
     soundness::copy(words, &mut table, 0);
     table
 }
@@ -71,7 +60,7 @@ pub fn tables_of(words: &[u32], job: Job) -> Tables
     requires { J.WellFormedJob words.now job }
     ensures { result ≡ O.tables_in words.now job }
 {
-    let sources = sources_table(table::sources_of(words, job));
-    let targets = targets_table(table::targets_of(words, job));
+    let sources: [u32; MOST_SOURCES] = table_of(table::sources_of(words, job));
+    let targets: [u32; MOST_TARGETS] = table_of(table::targets_of(words, job));
     tables_with(job, sources, targets)
 }

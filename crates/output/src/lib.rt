@@ -1,10 +1,8 @@
 // What output codes show of a target's ports: document 01, "What a binding shows".
 #![tactic(auto)]
 
-ghost use Rattle.std.specs.Prelude.{◌≡◌, ◌^◌, ◌<◌};
-ghost use Rattle.std.specs.Bool.{beq};
+ghost use Rattle.std.specs.Prelude.{◌≡◌, ◌^◌, ◌<◌, [], ◌∷◌, slice_index_or};
 ghost use Rattle.bits.specs.Asked as Q;
-ghost use Rattle.bits.specs.Bits as W;
 ghost use Rattle.output.specs.Output as B;
 
 use bits::Ports;
@@ -18,15 +16,22 @@ pub struct Outputs {
     pub code: u32,
 }
 
+// What a code of three shows: nothing, a value, or its complement.
+fn shown<T: Copy>(code: u32, nothing: T, value: T, complement: T) -> T
+    ensures { result ≡ slice_index_or (nothing ∷ value ∷ complement ∷ []) code nothing }
+{
+    match code {
+        1 => value,
+        2 => complement,
+        _ => nothing,
+    }
+}
+
 // A one bit output.
 pub fn shown_bit(code: u32, bit: bool) -> bool
     ensures { result ≡ B.shown_bit code bit }
 {
-    if 3 <= code {
-        return false;
-    }
-    let bits = [false, bit, !bit];
-    bits[code as usize]
+    shown(code, false, bit, !bit)
 }
 
 // The main output.
@@ -34,27 +39,14 @@ fn shown_word(n: u32, code: u32, word: u64) -> u64
     requires { Q.Width n × (word < 2 ^ n) }
     ensures { result ≡ B.shown_word n code word }
 {
-    if 3 <= code {
-        return 0;
-    }
-    let words = [0, word, bits::complement(n, word)];
-    words[code as usize]
-}
-
-pub fn exor(x: bool, y: bool) -> bool
-    ensures { result ≡ W.exor x y }
-{
-    x ^ y
+    shown(code, 0, word, bits::complement(n, word))
 }
 
 // A comparison code on TO1, GOR and GAND of TO0, S and TOVF.
 pub fn shown_comparison(code: u32, to1: bool, gor: bool, gand: bool, s: bool, tovf: bool) -> bool
     ensures { result ≡ B.shown_comparison code to1 gor gand s tovf }
 {
-    if 16 <= code {
-        return false;
-    }
-    let less = exor(s, tovf);
+    let less = s ^ tovf;
     let bits = [
         false,
         to1,
@@ -73,7 +65,7 @@ pub fn shown_comparison(code: u32, to1: bool, gor: bool, gand: bool, s: bool, to
         less | !gor,
         !(less | !gor),
     ];
-    bits[code as usize]
+    bits.get(code as usize).copied().unwrap_or(false)
 }
 
 // The ports that the output codes show of a target's.

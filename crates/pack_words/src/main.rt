@@ -2,8 +2,6 @@
 // the end of the line is a comment.
 #![tactic(auto)]
 
-use word_text::Found;
-
 // Writes a word's bytes, and answers whether it could.
 fn write_word(rt: &HostRuntime, word: u32) -> bool {
     let bytes = files::bytes_of(word);
@@ -13,17 +11,10 @@ fn write_word(rt: &HostRuntime, word: u32) -> bool {
 // Writes each word, until the text is over or a word cannot be written.
 fn pack(rt: &HostRuntime) {
     let mut text = word_text::unread();
-    loop {
-        let taken = text.next(rt, b"pack_words");
-        let found = taken.found;
-        let Found::Word(word) = found else {
-            return;
-        };
+    while let Some(word) = text.next(rt, b"pack_words") {
         if !write_word(rt, word) {
             return;
         }
-        let rest = taken.text;
-        text = rest;
     }
 }
 

@@ -9,118 +9,96 @@ use random::{costs_from, word_from};
 use reference::trial::next;
 use tables::{ALL, SINGLE};
 use testing::say;
-use testing::tally::{Tally, counted, none};
-use testing::words::at;
+use testing::tally::Tally;
+use testing::words::{at, first};
 use words::Prices;
 
 const SEED: u64 = 0x9e37_79b9_7f4a_7c15;
 
-// The library's count of what is in use, at widths from 1 to 64.
-fn price(usage: u64, costs: Costs) -> u64 {
+// The library's count of what is in use, at widths from 1 to 64; at no others.
+fn price(usage: u64, costs: Costs) -> Option<u64> {
     let n = (costs.n % 0x1_0000_0000) as u32;
-    if n == 0 {
-        return 0;
-    }
-    if n > 64 {
-        return 0;
+    if (n == 0) || (n > 64) {
+        return None;
     }
     let prices = Prices {
         inverter: (costs.inverter % 256) as u8,
         gate: (costs.gate % 256) as u8,
         multiplexer: (costs.multiplexer % 256) as u8,
     };
-    let count = tally::price(usage, n, prices);
-    count as u64
+    Some(tally::price(usage, n, prices) as u64)
 }
 
-// The words at a width and prices made of x.
-fn compared(tally: Tally, words: &[u32], x: u64) -> Tally {
+// Whether the words have the same count at a width and prices made of x.
+fn agrees(words: &[u32], x: u64) -> bool {
     let costs = costs_from(x);
-    let same = price(usage::joined(words), costs) == glue_count(words, costs);
-    counted(tally, same)
+    price(usage::joined(words), costs) == Some(glue_count(words, costs))
 }
 
 // The same words at a thousand widths and prices.
-fn at_many(tally: Tally, words: &[u32]) -> Tally {
-    let mut t = tally;
+fn try_many(tally: &mut Tally, words: &[u32]) {
     let mut x = SEED;
-    let mut i: u32 = 0;
-    while i < 1000 {
-        let after = compared(t, words, x);
-        t = after;
+    for _ in 0..1000 {
+        tally.count(agrees(words, x));
         x = next(x);
-        i += 1;
     }
-    t
+}
+
+fn at_many(words: &[u32]) -> Tally {
+    let mut tally = Tally::none();
+    try_many(&mut tally, words);
+    tally
 }
 
 fn single_codes() -> Tally {
-    let mut t = none();
-    let mut i = 0;
-    while i < 56 {
-        let words = [SINGLE[i]];
-        let after = at_many(t, &words);
-        t = after;
-        i += 1;
+    let mut tally = Tally::none();
+    for word in &SINGLE {
+        try_many(&mut tally, &[*word]);
     }
-    t
+    tally
 }
 
 // One code with each other.
 fn pairs() -> Tally {
-    let mut t = none();
+    let mut tally = Tally::none();
     let mut x = SEED;
-    let mut i = 0;
-    while i < 3136 {
-        let words = [at(&SINGLE, i / 56), at(&SINGLE, i % 56)];
-        let after = compared(t, &words, x);
-        t = after;
+    for i in 0..3136 {
+        tally.count(agrees(&[SINGLE[i / 56], SINGLE[i % 56]], x));
         x = next(x);
-        i += 1;
     }
-    t
+    tally
 }
 
 fn words_from(x: u64) -> [u32; 27] {
     let mut words = [0; 27];
     let mut y = x;
-    let mut i = 0;
-    while i < 27 {
-        words[i] = word_from(y);
+    for word in &mut words {
+        *word = word_from(y);
         y = next(y);
-        i += 1;
     }
     words
 }
 
 // Sets of none of the words and more, each made of the one before by joining one word's set.
-fn grown(tally: Tally, words: &[u32], sets: usize, costs: Costs) -> Tally {
-    let mut t = tally;
+fn try_grown(tally: &mut Tally, words: &[u32], sets: usize, costs: Costs) {
     let mut usage: u64 = 0;
-    let mut k = 0;
-    while k < sets {
-        let second = glue_count(testing::words::first(words, k), costs);
-        let after = counted(t, price(usage, costs) == second);
-        t = after;
-        usage = usage | usage::usage_of(at(words, k));
-        k += 1;
+    for k in 0..sets {
+        let second = glue_count(first(words, k), costs);
+        tally.count(price(usage, costs) == Some(second));
+        usage |= usage::usage_of(at(words, k));
     }
-    t
 }
 
 fn random_sets() -> Tally {
-    let mut t = none();
+    let mut tally = Tally::none();
     let mut x = SEED;
-    let mut i: u32 = 0;
-    while i < 20000 {
+    for _ in 0..20000 {
         let y = next(x);
         let words = words_from(y);
-        let after = grown(t, &words, (y % 28 + 1) as usize, costs_from(x));
-        t = after;
+        try_grown(&mut tally, &words, (y % 28 + 1) as usize, costs_from(x));
         x = next(y / 32 + 1);
-        i += 1;
     }
-    t
+    tally
 }
 
 // One count, printed.
@@ -131,8 +109,10 @@ fn total(rt: &HostRuntime, name: &[u8], words: &[u32], n: u64, multiplexer: u64,
         gate: other,
         multiplexer,
     };
-    say::count(rt, name, price(usage::joined(words), costs));
-    say::text(rt, b"\n");
+    if let Some(count) = price(usage::joined(words), costs) {
+        say::count(rt, name, count);
+        say::text(rt, b"\n");
+    }
 }
 
 fn report_totals(rt: &HostRuntime) {
@@ -140,7 +120,7 @@ fn report_totals(rt: &HostRuntime) {
     total(
         rt,
         b"no bindings at width 64 and prices 255: ",
-        &printed[..0],
+        &[],
         64,
         255,
         255,
@@ -164,11 +144,10 @@ fn report_totals(rt: &HostRuntime) {
 }
 
 fn main(rt: HostRuntime) {
-    let nothing = [0; 1];
-    say::report(&rt, b"no bindings", at_many(none(), &nothing[..0]));
+    say::report(&rt, b"no bindings", at_many(&[]));
     say::report(&rt, b"one code", single_codes());
     say::report(&rt, b"two codes", pairs());
-    say::report(&rt, b"all codes", at_many(none(), &ALL));
+    say::report(&rt, b"all codes", at_many(&ALL));
     say::report(&rt, b"random sets", random_sets());
     report_totals(&rt);
 }

@@ -17,12 +17,10 @@ fn print_rule(rt: &HostRuntime, index: usize) -> bool
 
 // Prints the rules in the book's order, until a line cannot be printed.
 fn print_all(rt: &HostRuntime) {
-    let mut index = 0;
-    while index < book::SIZE {
+    for index in 0..book::SIZE {
         if !print_rule(rt, index) {
             return;
         }
-        index += 1;
     }
 }
 

@@ -13,33 +13,31 @@ use Rattle.grammar.specs.Reading.{beginning, reading}
 use Rattle.reader.specs.Mapping.{mapping_facts, mapping_ended, mapping_of}
 use Rattle.sequence.specs.declared.File.TheVariants.{AsMapping}
 use Rattle.sequence.specs.declared.State.{State}
-use Rattle.grammar.specs.declared.step.Reading.{Reading}
-use Rattle.grammar.specs.declared.step.Reading.TheVariants.{Passed, Stopped}
+use Rattle.std.specs.Prelude.{Result, Ok, Err}
 use Rattle.reader.specs.declared.Mapping.{Mapping}
-use Rattle.reader.specs.declared.MappingRead.TheVariants.{Accepted, Refused}
 use Rattle.reader.proofs.Limits.{none, many, between}
 
 module _ (ws : List ℕ) where
-  pub no_words : length ws < 1 → Refused (refusal 1 0) ≡ mapping_of ws
+  pub no_words : length ws < 1 → Err (refusal 1 0) ≡ mapping_of ws
   unfolding mapping_of
-  no_words h = none most_mapping_words (length ws) (Refused (refusal 1 0)) _ h
+  no_words h = none most_mapping_words (length ws) (Err (refusal 1 0)) _ h
 
-  pub many_words : most_mapping_words < length ws → Refused (refusal 1 0) ≡ mapping_of ws
+  pub many_words : most_mapping_words < length ws → Err (refusal 1 0) ≡ mapping_of ws
   unfolding mapping_of
-  many_words h = many most_mapping_words (length ws) (Refused (refusal 1 0)) _ (omega arith) h
+  many_words h = many most_mapping_words (length ws) (Err (refusal 1 0)) _ (omega arith) h
 
-  module _ (r : Reading) (e : r ≡ reading AsMapping beginning 0 ws) (some : 1 ≤ length ws) (few : length ws ≤ most_mapping_words) where
+  module _ (r : Result State Refusal) (e : r ≡ reading AsMapping beginning 0 ws) (some : 1 ≤ length ws) (few : length ws ≤ most_mapping_words) where
     pub by_reading : mapping_of ws ≡ mapping_ended ws r
     unfolding mapping_of
-    by_reading = between most_mapping_words (length ws) (Refused (refusal 1 0)) _ some few ∙ ap (mapping_ended ws) (sym e)
+    by_reading = between most_mapping_words (length ws) (Err (refusal 1 0)) _ some few ∙ ap (mapping_ended ws) (sym e)
 
-    pub stopped : (x : Refusal) → r ≡ Stopped x → Refused x ≡ mapping_of ws
+    pub stopped : (x : Refusal) → r ≡ Err x → Err x ≡ mapping_of ws
     stopped x p = sym (by_reading ∙ ap (mapping_ended ws) p)
 
-    module _ (s : State) (p : r ≡ Passed s) where
-      pub ended_early : (s.stage ≡ GLUE → ⊥) → Refused (refusal 2 (length ws)) ≡ mapping_of ws
+    module _ (s : State) (p : r ≡ Ok s) where
+      pub ended_early : (s.stage ≡ GLUE → ⊥) → Err (refusal 2 (length ws)) ≡ mapping_of ws
       ended_early h = sym (by_reading ∙ ap (mapping_ended ws) p ∙ rw (ne_eqb s.stage GLUE h) refl)
 
       pub accepted : (mapping : Mapping) → s.stage ≡ GLUE → mapping ≡ mapping_facts (get_or ws 0 0) (get_or ws (length ws - 1) 0) s
-          → Accepted mapping ≡ mapping_of ws
-      accepted mapping h u = sym (by_reading ∙ ap (mapping_ended ws) p ∙ rw (eq-eqb s.stage GLUE h) (ap Accepted (sym u)))
+          → Ok mapping ≡ mapping_of ws
+      accepted mapping h u = sym (by_reading ∙ ap (mapping_ended ws) p ∙ rw (eq-eqb s.stage GLUE h) (ap Ok (sym u)))

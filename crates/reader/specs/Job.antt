@@ -1,5 +1,5 @@
 -- Document 01, "Words" and refusals 1 to 6: the reading of a job.
-use Rattle.std.specs.Prelude.{ℕ, ◌≡◌, List, [], ◌∷◌, eqb, ltb, length, get_or, if◌then◌else◌}
+use Rattle.std.specs.Prelude.{ℕ, ◌≡◌, List, [], ◌∷◌, eqb, ltb, length, get_or, if◌then◌else◌, Result, Ok, Err}
 use Rattle.words.specs.Field.{field}
 use Rattle.words.specs.Paper.{Paper, refusal, accepted, told}
 use Rattle.words.specs.declared.Prices.{Prices}
@@ -7,11 +7,8 @@ use Rattle.sequence.specs.Limits.{most_job_words}
 use Rattle.grammar.specs.Reading.{reading, beginning}
 use Rattle.sequence.specs.declared.File.TheVariants.{AsJob}
 use Rattle.sequence.specs.declared.State.{State}
-use Rattle.grammar.specs.declared.step.Reading.{Reading}
-use Rattle.grammar.specs.declared.step.Reading.TheVariants.{Passed, Stopped}
+use Rattle.words.specs.declared.Refusal.{Refusal}
 use Rattle.reader.specs.declared.Job.{Job}
-use Rattle.reader.specs.declared.JobRead.{JobRead}
-use Rattle.reader.specs.declared.JobRead.TheVariants.{Accepted, Refused}
 
 -- "bits 23..16 inverter a, 15..8 two-input gate b, 7..0 two-way multiplexer m"
 abbrev pub prices_in : ℕ → Prices
@@ -30,26 +27,26 @@ job_facts header prices s =
     }
 
 -- the words passed one by one; "or file ended early (place: word count)": a job has "1 to 27 sources"
-abbrev pub job_ended : List ℕ → Reading → JobRead
-job_ended ws (Stopped r) = Refused r
-job_ended ws (Passed s) =
-    if ltb s.sources 1 then Refused (refusal 2 (length ws)) else Accepted (job_facts (get_or ws 0 0) (get_or ws 1 0) s)
+abbrev pub job_ended : List ℕ → Result State Refusal → Result Job Refusal
+job_ended ws (Err r) = Err r
+job_ended ws (Ok s) =
+    if ltb s.sources 1 then Err (refusal 2 (length ws)) else Ok (job_facts (get_or ws 0 0) (get_or ws 1 0) s)
 
 -- "1. No words, over 568 in a job ..; place 0." "1 first; then word by word, 2 to 6 in each"
-unfoldable pub job_of : List ℕ → JobRead
+unfoldable pub job_of : List ℕ → Result Job Refusal
 job_of ws =
-    if ltb (length ws) 1 then Refused (refusal 1 0)
-    else if ltb most_job_words (length ws) then Refused (refusal 1 0)
+    if ltb (length ws) 1 then Err (refusal 1 0)
+    else if ltb most_job_words (length ws) then Err (refusal 1 0)
     else job_ended ws (reading AsJob beginning 0 ws)
 
 -- "A job .. is well formed if none of 1 to 6 below holds of its words": it then says this
 abbrev pub WellFormedJob : List ℕ → Job → Type 0
-WellFormedJob ws job = job_of ws ≡ Accepted job
+WellFormedJob ws job = job_of ws ≡ Ok job
 
 -- the answer in document 01's numbers
-abbrev pub paper_of : JobRead → Paper
-paper_of (Accepted job) =
+abbrev pub paper_of : Result Job Refusal → Paper
+paper_of (Ok job) =
     accepted
     (job.width ∷ job.prices.inverter ∷ job.prices.gate ∷ job.prices.multiplexer ∷ job.sources ∷ job.targets ∷ job.rules
     ∷ (if job.book then 1 else 0) ∷ [])
-paper_of (Refused r) = told r
+paper_of (Err r) = told r

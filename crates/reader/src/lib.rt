@@ -7,7 +7,6 @@ ghost use Rattle.reader.specs.Starts as S;
 ghost use Rattle.reader.specs.Job as J;
 ghost use Rattle.reader.specs.Mapping as M;
 
-use grammar::Reading;
 use sequence::{File, MOST_JOB_WORDS, MOST_MAPPING_WORDS, State};
 use words::{Prices, Refusal};
 
@@ -28,24 +27,12 @@ pub struct Job {
     pub book: bool,
 }
 
-#[derive(Clone, Copy)]
-pub enum JobRead {
-    Accepted(Job),
-    Refused(Refusal),
-}
-
 // What a mapping says: its width, how many bindings its words hold, and its glue count.
 #[derive(Clone, Copy)]
 pub struct Mapping {
     pub width: u32,
     pub bindings: u32,
     pub glue: u32,
-}
-
-#[derive(Clone, Copy)]
-pub enum MappingRead {
-    Accepted(Mapping),
-    Refused(Refusal),
 }
 
 // The prices of a job's second word.
@@ -73,34 +60,29 @@ fn job_facts(header: u32, prices: u32, s: State) -> Job
     }
 }
 
-pub fn read_job(words: &[u32]) -> JobRead
+pub fn read_job(words: &[u32]) -> Result<Job, Refusal>
     ensures { result ≡ J.job_of words.now }
 {
     if words.len() < 1 {
-        return JobRead::Refused(Refusal {
+        return Err(Refusal {
             number: 1,
             place: 0,
         });
     }
     if MOST_JOB_WORDS < words.len() {
-        return JobRead::Refused(Refusal {
+        return Err(Refusal {
             number: 1,
             place: 0,
         });
     }
-    let reading = scan::read_words(File::AsJob, words);
-    match reading {
-        Reading::Stopped(refusal) => JobRead::Refused(refusal),
-        Reading::Passed(s) => {
-            if s.sources < 1 {
-                return JobRead::Refused(Refusal {
-                    number: 2,
-                    place: words.len(),
-                });
-            }
-            JobRead::Accepted(job_facts(words[0], words[1], s))
-        }
+    let s = scan::read_words(File::AsJob, words)?;
+    if s.sources < 1 {
+        return Err(Refusal {
+            number: 2,
+            place: words.len(),
+        });
     }
+    Ok(job_facts(words[0], words[1], s))
 }
 
 fn mapping_facts(header: u32, last: u32, s: State) -> Mapping
@@ -113,34 +95,29 @@ fn mapping_facts(header: u32, last: u32, s: State) -> Mapping
     }
 }
 
-pub fn read_mapping(words: &[u32]) -> MappingRead
+pub fn read_mapping(words: &[u32]) -> Result<Mapping, Refusal>
     ensures { result ≡ M.mapping_of words.now }
 {
     if words.len() < 1 {
-        return MappingRead::Refused(Refusal {
+        return Err(Refusal {
             number: 1,
             place: 0,
         });
     }
     if MOST_MAPPING_WORDS < words.len() {
-        return MappingRead::Refused(Refusal {
+        return Err(Refusal {
             number: 1,
             place: 0,
         });
     }
-    let reading = scan::read_words(File::AsMapping, words);
-    match reading {
-        Reading::Stopped(refusal) => MappingRead::Refused(refusal),
-        Reading::Passed(s) => {
-            if s.stage != words::GLUE {
-                return MappingRead::Refused(Refusal {
-                    number: 2,
-                    place: words.len(),
-                });
-            }
-            MappingRead::Accepted(mapping_facts(words[0], words[words.len() - 1], s))
-        }
+    let s = scan::read_words(File::AsMapping, words)?;
+    if s.stage != words::GLUE {
+        return Err(Refusal {
+            number: 2,
+            place: words.len(),
+        });
     }
+    Ok(mapping_facts(words[0], words[words.len() - 1], s))
 }
 
 // The words at which a job's targets and rules begin.

@@ -1,97 +1,66 @@
 // The library's reader beside the second one, with what tests say of both.
 #![tactic(auto)]
 
-use accounts::reading::{Reading, read};
-use reader::{Job, JobRead, MappingRead};
+use accounts::reading::{JobFacts, MappingFacts, read_job, read_mapping};
+use reader::{Job, Mapping};
+use reference::answer::{Refusal, Subject, refused};
 use testing::say;
 use testing::tally::{Numbers, noted};
-use testing::words::first;
 
-// The number of an expected refusal where document 01 does not tell what is said.
-pub const ANY: u32 = 12;
+// What document 01 says of a file: that it is accepted, or refused with a number at a place.
+pub type Said = Result<(), (u32, usize)>;
 
-fn refused(number: u32, place: usize) -> Reading {
-    Reading {
-        number,
-        place,
-        facts: [0; 8],
-    }
-}
-
-fn accepted(facts: [u32; 8]) -> Reading {
-    Reading {
-        number: 0,
-        place: 0,
-        facts,
-    }
-}
-
-fn facts_of(job: Job) -> [u32; 8] {
+fn facts_of(job: Job) -> JobFacts {
     let prices = job.prices;
-    [
-        job.width,
-        prices.inverter as u32,
-        prices.gate as u32,
-        prices.multiplexer as u32,
-        job.sources,
-        job.targets,
-        job.rules,
-        job.book as u32,
-    ]
+    JobFacts {
+        width: job.width,
+        inverter: prices.inverter as u32,
+        gate: prices.gate as u32,
+        multiplexer: prices.multiplexer as u32,
+        sources: job.sources,
+        targets: job.targets,
+        rules: job.rules,
+        book: job.book,
+    }
 }
 
-fn from_job(answer: JobRead) -> Reading {
+fn from_job(answer: Result<Job, words::Refusal>) -> Result<JobFacts, Refusal> {
     match answer {
-        JobRead::Refused(refusal) => refused(refusal.number, refusal.place),
-        JobRead::Accepted(job) => accepted(facts_of(job)),
+        Err(refusal) => { Err(refused(Subject::Job, refusal.number, refusal.place)) }
+        Ok(job) => Ok(facts_of(job)),
     }
 }
 
-fn from_mapping(answer: MappingRead) -> Reading {
+fn from_mapping(answer: Result<Mapping, words::Refusal>) -> Result<MappingFacts, Refusal> {
     match answer {
-        MappingRead::Refused(refusal) => refused(refusal.number, refusal.place),
-        MappingRead::Accepted(m) => accepted([m.width, m.bindings, m.glue, 0, 0, 0, 0, 0]),
+        Err(refusal) => { Err(refused(Subject::Mapping, refusal.number, refusal.place)) }
+        Ok(m) => Ok(MappingFacts {
+            width: m.width,
+            bindings: m.bindings,
+            glue: m.glue,
+        }),
     }
 }
 
-fn same_facts(a: [u32; 8], b: [u32; 8]) -> bool {
-    let mut i = 0;
-    while i < 8 {
-        if a[i] != b[i] {
-            return false;
-        }
-        i += 1;
-    }
-    true
-}
-
-fn same(a: Reading, b: Reading) -> bool {
-    let facts = a.facts;
-    let others = b.facts;
-    (a.number == b.number) & (a.place == b.place) & same_facts(facts, others)
-}
-
-fn read_by_library(of_job: bool, file: &[u32]) -> Reading {
+// The refusal of the library's reader, and whether the second one refuses the same, or finds the same facts.
+fn read_by_both(of_job: bool, file: &[u32]) -> (Option<Refusal>, bool) {
     if of_job {
-        from_job(reader::read_job(file))
-    } else {
-        from_mapping(reader::read_mapping(file))
+        let told = from_job(reader::read_job(file));
+        return (told.err(), told == read_job(file));
     }
+    let told = from_mapping(reader::read_mapping(file));
+    (told.err(), told == read_mapping(file))
 }
 
-// Compares the readers on the first n words, with each other and with what document 01 says of them.
-pub fn compare(
-    all: Numbers,
-    of_job: bool,
-    words: &[u32],
-    n: usize,
-    number: u32,
-    place: usize,
-) -> Numbers {
-    let file = first(words, n);
-    let told = read_by_library(of_job, file);
-    let expected = (number == ANY) | ((told.number == number) & (told.place == place));
-    noted(all, told.number, expected & same(told, read(of_job, file)))
+// Compares the readers on a file, with each other and with what document 01 says of it, where it tells.
+pub fn compare(all: Numbers, of_job: bool, file: &[u32], said: Option<Said>) -> Numbers {
+    let (refusal, same) = read_by_both(of_job, file);
+    let (told, number) = match refusal {
+        Some(refusal) => (Err((refusal.number, refusal.place)), refusal.number),
+        None => (Ok(()), 0),
+    };
+    let as_said = said.is_none_or(|said| told == said);
+    noted(all, number, as_said && same)
 }
 
 pub fn report(rt: &HostRuntime, name: &[u8], all: Numbers) {

@@ -1,27 +1,23 @@
 // Random damage to a file.
 use crate::random::{draw, random_file, random_word};
-use readers::{ANY, compare};
+use readers::compare;
 use std::num::{wrapping_add_usize, wrapping_sub_usize};
-use testing::tally::Numbers;
-use testing::words::{at, put};
+use testing::tally::{Numbers, no_numbers};
+use testing::words::{at, first, put};
 
 // Removes the word at an index from n words.
 fn remove(words: &mut [u32], index: usize, n: usize) {
-    let mut i = index;
-    while i < n {
-        let next = at(words, wrapping_add_usize(i, 1));
+    for i in index..n {
+        let next = at(words, i + 1);
         put(words, i, next);
-        i += 1;
     }
 }
 
 // Makes room at an index among n words; the word there then stands twice.
 pub fn repeat(words: &mut [u32], index: usize, n: usize) {
-    let mut i = n;
-    while index < i {
-        let before = at(words, i - 1);
-        put(words, i, before);
-        i -= 1;
+    for i in (index..n).rev() {
+        let before = at(words, i);
+        put(words, wrapping_add_usize(i, 1), before);
     }
 }
 
@@ -101,11 +97,9 @@ fn draw_below(any: usize, n: usize) -> usize {
 fn damaged(words: &mut [u32], n: usize, state: &mut u64) -> usize {
     let times = draw(state, 4);
     let mut count = n;
-    let mut i = 0;
-    while i < times {
+    for _ in 0..times {
         let index = draw_index(state, count);
         count = damage(words, count, index, state);
-        i += 1;
     }
     count
 }
@@ -114,14 +108,11 @@ fn damaged(words: &mut [u32], n: usize, state: &mut u64) -> usize {
 pub fn damaged_files(of_job: bool, files: u32) -> Numbers {
     let mut words = [0u32; 600];
     let mut state = 0x2545_f491_4f6c_dd1d;
-    let mut all = testing::tally::no_numbers();
-    let mut i = 0;
-    while i < files {
+    let mut all = no_numbers();
+    for _ in 0..files {
         let n = random_file(of_job, &mut words, &mut state);
         let count = damaged(&mut words, n, &mut state);
-        let next = compare(all, of_job, &words, count, ANY, 0);
-        all = next;
-        i += 1;
+        all = compare(all, of_job, first(&words, count), None);
     }
     all
 }

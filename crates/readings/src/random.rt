@@ -18,14 +18,40 @@ fn draw_from(state: &mut u64, first: u32, count: u32) -> u32 {
     std::num::wrapping_add_u32(draw(state, count), first)
 }
 
-// Of the three kinds of targets: the first function and how many there are, the first comparison code of them and how many.
-const KINDS: [u32; 12] = [1, 5, 3, 13, 6, 16, 3, 9, 22, 6, 1, 2];
+// Targets of one kind: the first function and how many there are, the first comparison code of them and how many.
+struct Targets {
+    function: u32,
+    functions: u32,
+    code: u32,
+    codes: u32,
+}
+
+const TARGETS: [Targets; 3] = [
+    Targets {
+        function: 1,
+        functions: 5,
+        code: 3,
+        codes: 13,
+    },
+    Targets {
+        function: 6,
+        functions: 16,
+        code: 3,
+        codes: 9,
+    },
+    Targets {
+        function: 22,
+        functions: 6,
+        code: 1,
+        codes: 2,
+    },
+];
 
 // The target and the comparison code of a recipe for a comparison.
 fn comparison(state: &mut u64) -> u32 {
-    let row = (draw(state, 3) % 3 * 4) as usize;
-    let target = draw_from(state, at(&KINDS, row), at(&KINDS, row + 1));
-    (target << 18) | draw_from(state, at(&KINDS, row + 2), at(&KINDS, row + 3))
+    let targets = &TARGETS[(draw(state, 3) % 3) as usize];
+    let target = draw_from(state, targets.function, targets.functions);
+    (target << 18) | draw_from(state, targets.code, targets.codes)
 }
 
 // The target and the outputs of a recipe for a function.
@@ -81,10 +107,8 @@ fn maybe(
 fn random_table(words: &mut [u32], from: usize, kind: u32, state: &mut u64) -> usize {
     let odds = draw(state, 8);
     let mut place = from;
-    let mut function = 1;
-    while function <= 27 {
+    for function in 1..=27 {
         place = maybe(words, place, kind, function, odds, state);
-        function += 1;
     }
     place
 }
@@ -93,12 +117,10 @@ fn random_table(words: &mut [u32], from: usize, kind: u32, state: &mut u64) -> u
 fn random_rules(words: &mut [u32], from: usize, state: &mut u64) -> usize {
     let most = if draw(state, 50) == 0 { 513 } else { 12 };
     let count = draw(state, most) as usize;
-    let mut i = 0;
-    while i < count {
+    for i in 0..count {
         let function = draw_from(state, 1, 27);
         let rule = random_word(state, 5, function);
         put(words, wrapping_add_usize(from, i), rule);
-        i += 1;
     }
     wrapping_add_usize(from, count)
 }

@@ -1,27 +1,25 @@
 // Table 1, by carries that ripple from the lowest place to the top. OVF is 1 where the carry into the top place is not the carry
 // out of it.
 use crate::evaluator::Shown;
-use crate::places::{bit, number, with_bit};
+use crate::places::{bit, with_bit};
 
 // The sum of two words and a carry, each word complemented where it is told to be: a full adder at each place.
 fn ripple(n: u32, left: u64, left_not: bool, right: u64, right_not: bool, carry: bool) -> Shown {
     let mut word = 0;
     let mut into = false;
     let mut out = carry;
-    let mut place = 0;
-    while place < n {
+    for place in 0..n {
         let x = bit(left, place) ^ left_not;
         let y = bit(right, place) ^ right_not;
         word = with_bit(word, place, x ^ y ^ out);
         into = out;
         out = (x & y) | ((x ^ y) & out);
-        place += 1;
     }
     Shown {
         o0: word,
-        ocout: number(out),
-        ovf: number(into ^ out),
-        o1: 0,
+        ocout: out,
+        ovf: into ^ out,
+        o1: false,
     }
 }
 
@@ -31,19 +29,17 @@ fn count(n: u32, word: u64, down: bool) -> Shown {
     let mut next = 0;
     let mut into = true;
     let mut out = true;
-    let mut place = 0;
-    while place < n {
+    for place in 0..n {
         let b = bit(word, place);
         next = with_bit(next, place, b ^ out);
         into = out;
-        out = out & (b ^ down);
-        place += 1;
+        out &= b ^ down;
     }
     Shown {
         o0: next,
-        ocout: number(out ^ down),
-        ovf: number(into ^ out),
-        o1: 0,
+        ocout: out ^ down,
+        ovf: into ^ out,
+        o1: false,
     }
 }
 

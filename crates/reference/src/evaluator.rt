@@ -4,50 +4,49 @@ use crate::comparison::comparison;
 use crate::logic::logic;
 use crate::places::fits;
 
-// The four ports, as numbers.
-#[derive(Clone, Copy)]
+#[derive(Clone, Copy, PartialEq, Eq)]
+pub struct Operands {
+    pub left: u64,
+    pub right: u64,
+    pub carry: u32,
+}
+
+// The four ports.
+#[derive(Clone, Copy, PartialEq, Eq)]
 pub struct Shown {
     pub o0: u64,
-    pub ocout: u32,
-    pub ovf: u32,
-    pub o1: u32,
+    pub ocout: bool,
+    pub ovf: bool,
+    pub o1: bool,
 }
 
-// The first of the five values that is out of range, counted from 0, or 5 where none is.
-pub fn first_out_of_range(function: u32, width: u32, left: u64, right: u64, carry: u32) -> u32 {
+// A function, a width and operands, in document 01's order, counted from 0: the place of the first of these five that is out of range.
+pub fn in_range(function: u32, width: u32, at: Operands) -> Result<(), usize> {
     if (function == 0) | (function > 27) {
-        return 0;
+        return Err(0);
     }
     if (width == 0) | (width > 64) {
-        return 1;
+        return Err(1);
     }
-    if !fits(left, width) {
-        return 2;
+    if !fits(at.left, width) {
+        return Err(2);
     }
-    if !fits(right, width) {
-        return 3;
+    if !fits(at.right, width) {
+        return Err(3);
     }
-    if carry > 1 {
-        return 4;
+    if at.carry > 1 {
+        return Err(4);
     }
-    5
+    Ok(())
 }
 
-// The four ports; zeros where a value is out of range.
-pub fn evaluate(function: u32, width: u32, left: u64, right: u64, carry: u32) -> Shown {
-    if first_out_of_range(function, width, left, right, carry) < 5 {
-        return Shown {
-            o0: 0,
-            ocout: 0,
-            ovf: 0,
-            o1: 0,
-        };
-    }
-    if function <= 5 {
-        return arithmetic(function, width, left, right, carry == 1);
-    }
-    if function <= 21 {
-        return logic(function, width, left, right);
-    }
-    comparison(function, width, left, right)
+// The four ports, or the place of what is out of range.
+pub fn evaluate(function: u32, width: u32, at: Operands) -> Result<Shown, usize> {
+    in_range(function, width, at)?;
+    let shown = match function {
+        1..=5 => arithmetic(function, width, at.left, at.right, at.carry == 1),
+        6..=21 => logic(function, width, at.left, at.right),
+        _ => comparison(function, width, at.left, at.right),
+    };
+    Ok(shown)
 }

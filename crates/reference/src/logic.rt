@@ -1,6 +1,6 @@
 // Table 2, a gate at each place. Its LINHI, which the scan prints without the bar, is as document 01 has it.
 use crate::evaluator::Shown;
-use crate::places::{bit, with_bit};
+use crate::places::at_each_place;
 
 fn gate(function: u32, x: bool, y: bool) -> bool {
     match function {
@@ -30,17 +30,10 @@ fn gate(function: u32, x: bool, y: bool) -> bool {
 }
 
 pub fn logic(function: u32, n: u32, left: u64, right: u64) -> Shown {
-    let mut word = 0;
-    let mut place = 0;
-    while place < n {
-        let b = gate(function, bit(left, place), bit(right, place));
-        word = with_bit(word, place, b);
-        place += 1;
-    }
     Shown {
-        o0: word,
-        ocout: 0,
-        ovf: 0,
-        o1: 0,
+        o0: at_each_place(n, left, right, |x, y| gate(function, x, y)),
+        ocout: false,
+        ovf: false,
+        o1: false,
     }
 }

@@ -12,18 +12,22 @@ pub fn with_bit(word: u64, place: u32, b: bool) -> u64 {
     }
 }
 
-// A bit as a number.
-pub fn number(b: bool) -> u32 {
-    b as u32
+// The word of n places that a gate makes of two words, place by place.
+pub fn at_each_place<F: Fn(bool, bool) -> bool>(n: u32, left: u64, right: u64, gate: F) -> u64
+    requires { F.IsAlwaysCallable gate }
+{
+    let mut word = 0;
+    for place in 0..n {
+        word = with_bit(word, place, gate(bit(left, place), bit(right, place)));
+    }
+    word
 }
 
 // Whether a word has n bits: halved n times, nothing is left of it.
 pub fn fits(word: u64, n: u32) -> bool {
     let mut rest = word;
-    let mut place = 0;
-    while place < n {
-        rest = rest / 2;
-        place += 1;
+    for _ in 0..n {
+        rest /= 2;
     }
     rest == 0
 }

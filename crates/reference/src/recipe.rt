@@ -1,6 +1,6 @@
 // What a recipe word shows, place by place. The word is taken apart by division from its low end, as a number in mixed bases.
-use crate::evaluator::{Shown, evaluate, first_out_of_range};
-use crate::places::{bit, number, with_bit};
+use crate::evaluator::{Operands, Shown, evaluate, in_range};
+use crate::places::{at_each_place, bit};
 
 #[derive(Clone, Copy)]
 pub struct Fields {
@@ -49,15 +49,9 @@ fn minterm(vector: u32, x: bool, y: bool) -> bool {
     at % 2 == 1
 }
 
-fn at_each_place(vector: u32, n: u32, left: u64, right: u64) -> u64 {
-    let mut word = 0;
-    let mut place = 0;
-    while place < n {
-        let b = minterm(vector, bit(left, place), bit(right, place));
-        word = with_bit(word, place, b);
-        place += 1;
-    }
-    word
+// The word that a vector makes of two.
+fn by_vector(vector: u32, n: u32, left: u64, right: u64) -> u64 {
+    at_each_place(n, left, right, |x, y| minterm(vector, x, y))
 }
 
 // A wiring is the gate that lets through one operand or its complement, or neither.
@@ -76,16 +70,16 @@ fn wire(code: u32) -> u32 {
 }
 
 // A comparison code reads of TO0 the top bit S and all bits joined by OR and by AND.
-fn compared(code: u32, n: u32, to0: u64, ovf: bool, to1: bool) -> bool {
+fn compared(code: u32, n: u32, target: Shown) -> bool {
+    let ovf = target.ovf;
+    let to1 = target.o1;
     let mut s = false;
     let mut gor = false;
     let mut gand = true;
-    let mut place = 0;
-    while place < n {
-        s = bit(to0, place);
-        gor = gor | s;
-        gand = gand & s;
-        place += 1;
+    for place in 0..n {
+        s = bit(target.o0, place);
+        gor |= s;
+        gand &= s;
     }
     match code {
         0 => false,
@@ -115,25 +109,22 @@ fn compared(code: u32, n: u32, to0: u64, ovf: bool, to1: bool) -> bool {
 
 // What a target shows through the outputs of a recipe.
 fn outputs(fields: Fields, n: u32, target: Shown) -> Shown {
-    let tovf = target.ovf == 1;
-    let main = fields.main;
-    let o0 = match main {
+    let o0 = match fields.main {
         0 => 0,
         1 => target.o0,
         // NOT TO0, by the gate of NOT SI0
-        _ => at_each_place(wire(3), n, target.o0, 0),
+        _ => by_vector(wire(3), n, target.o0, 0),
     };
-    let cout = fields.cout;
-    let ocout = match cout {
+    let ocout = match fields.cout {
         0 => false,
-        1 => target.ocout == 1,
-        _ => target.ocout != 1,
+        1 => target.ocout,
+        _ => !target.ocout,
     };
     Shown {
         o0,
-        ocout: number(ocout),
-        ovf: number((fields.ovf == 1) & tovf),
-        o1: number(compared(fields.code, n, target.o0, tovf, target.o1 == 1)),
+        ocout,
+        ovf: (fields.ovf == 1) & target.ovf,
+        o1: compared(fields.code, n, target),
     }
 }
 
@@ -143,59 +134,71 @@ fn carry_in(code: u32, carry: u32) -> u32 {
         1 => 1,
         // SICIN, NOT SICIN
         2 => carry,
-        _ => number(carry == 0),
+        _ => (carry == 0) as u32,
     }
 }
 
-// The four ports; zeros where a value is out of range.
-pub fn recipe_shows(word: u32, width: u32, left: u64, right: u64, carry: u32) -> Shown {
+// The four ports, or the place of what is out of range.
+pub fn recipe_shows(word: u32, width: u32, at: Operands) -> Result<Shown, usize> {
     let fields = fields_of(word);
-    if first_out_of_range(1, width, left, right, carry) < 5 {
-        return evaluate(0, width, left, right, carry);
-    }
+    in_range(1, width, at)?;
     if fields.target == 0 {
-        return Shown {
-            o0: at_each_place(fields.code, width, left, right),
-            ocout: 0,
-            ovf: 0,
-            o1: 0,
-        };
+        return Ok(Shown {
+            o0: by_vector(fields.code, width, at.left, at.right),
+            ocout: false,
+            ovf: false,
+            o1: false,
+        });
     }
-    let target = evaluate(
-        fields.target,
-        width,
-        at_each_place(wire(fields.left), width, left, right),
-        at_each_place(wire(fields.right), width, left, right),
-        carry_in(fields.carry, carry),
-    );
-    outputs(fields, width, target)
+    let wired = Operands {
+        left: by_vector(wire(fields.left), width, at.left, at.right),
+        right: by_vector(wire(fields.right), width, at.left, at.right),
+        carry: carry_in(fields.carry, at.carry),
+    };
+    let target = evaluate(fields.target, width, wired)?;
+    Ok(outputs(fields, width, target))
 }
 
-// The lowest port at which a recipe does not show what its source function does: 0 O0, 1 OCOUT, 2 OVF, 3 O1, or 4 where there is none.
-// Of a function or operands out of range nothing is shown, so that they would bear out anything: 5.
-pub fn first_difference(word: u32, width: u32, left: u64, right: u64, carry: u32) -> u32 {
-    let function = fields_of(word).source;
-    if first_out_of_range(function, width, left, right, carry) < 5 {
-        return 5;
-    }
-    first_differing(
-        recipe_shows(word, width, left, right, carry),
-        evaluate(function, width, left, right, carry),
-    )
+// The ports, in the order of document 01's numbers for them.
+#[derive(Clone, Copy, PartialEq, Eq)]
+pub enum Port {
+    O0,
+    Ocout,
+    Ovf,
+    O1,
 }
 
-fn first_differing(recipe: Shown, source: Shown) -> u32 {
+impl Port {
+    pub fn number(self) -> u32 {
+        match self {
+            Port::O0 => 0,
+            Port::Ocout => 1,
+            Port::Ovf => 2,
+            Port::O1 => 3,
+        }
+    }
+}
+
+// The lowest port at which a recipe does not show what its source function does, if there is one. Of a function or operands out of range
+// nothing is shown, so that they would bear out anything: the place of what is out of range.
+pub fn first_difference(word: u32, width: u32, at: Operands) -> Result<Option<Port>, usize> {
+    let source = evaluate(fields_of(word).source, width, at)?;
+    let recipe = recipe_shows(word, width, at)?;
+    Ok(first_differing(recipe, source))
+}
+
+fn first_differing(recipe: Shown, source: Shown) -> Option<Port> {
     if recipe.o0 != source.o0 {
-        return 0;
+        return Some(Port::O0);
     }
     if recipe.ocout != source.ocout {
-        return 1;
+        return Some(Port::Ocout);
     }
     if recipe.ovf != source.ovf {
-        return 2;
+        return Some(Port::Ovf);
     }
     if recipe.o1 != source.o1 {
-        return 3;
+        return Some(Port::O1);
     }
-    4
+    None
 }

@@ -1,6 +1,7 @@
 // The refusals of a recipe word and a width, each judged from the fields' numbers. A set of ports is a number: 1 for O0, 2 for OCOUT, 4
 // for OVF and 8 for O1, added up.
-use crate::answer::{Answer, OF_WORD, answered};
+// Kept: a struct of four flags would need its own union and comparison, which | and == are.
+use crate::answer::{Refusal, Subject, refused};
 use crate::recipe::{Fields, fields_of};
 
 // The ports that a function drives.
@@ -43,17 +44,17 @@ fn misfits(word: u32, fields: Fields) -> bool {
         | (fields.zero == 1)
 }
 
-// 2, 3, 5 or 6 of a recipe word, or 0.
-pub fn recipe_fault(word: u32) -> u32 {
+// What refuses a recipe word by itself: the number, 2, 3, 5 or 6.
+pub fn recipe_fits(word: u32) -> Result<(), u32> {
     let fields = fields_of(word);
     if (fields.kind != 5) & (fields.kind != 6) {
-        return 2;
+        return Err(2);
     }
     if misfits(word, fields) {
-        return 3;
+        return Err(3);
     }
     if fields.target == 0 {
-        return 0;
+        return Ok(());
     }
     // The main output, carry out and overflow that the recipe shows, and reads from its target under the same names.
     let plain = port_if_used(fields.main, 1)
@@ -61,22 +62,21 @@ pub fn recipe_fault(word: u32) -> u32 {
         | port_if_used(fields.ovf, 4);
     let from = driven(fields.target);
     if plain | compares(fields.code) | from != from {
-        return 5;
+        return Err(5);
     }
     if plain | port_if_used(fields.code, 8) != driven(fields.source) {
-        return 6;
+        return Err(6);
     }
-    0
+    Ok(())
 }
 
-// What a judge of a recipe word and a width refuses: the word, place 0, then the width, place 1. The number is 0 where it refuses nothing.
-pub fn refusal_of(word: u32, width: u32) -> Answer {
-    let number = recipe_fault(word);
-    if number != 0 {
-        return answered(OF_WORD, number, 0);
+// What a judge of a recipe word and a width refuses: the word, place 0, then the width, place 1.
+pub fn refusal_of(word: u32, width: u32) -> Option<Refusal> {
+    if let Err(number) = recipe_fits(word) {
+        return Some(refused(Subject::Word, number, 0));
     }
     if (width == 0) | (width > 64) {
-        return answered(OF_WORD, 3, 1);
+        return Some(refused(Subject::Word, 3, 1));
     }
-    answered(OF_WORD, 0, 0)
+    None
 }

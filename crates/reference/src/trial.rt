@@ -2,7 +2,7 @@
 // ones.
 ghost use Rattle.std.specs.Prelude.{◌≤◌};
 
-use crate::places::number;
+use crate::evaluator::Operands;
 use crate::recipe::{fields_of, first_difference};
 
 // The next of Marsaglia's 64-bit xorshift numbers.
@@ -21,13 +21,6 @@ pub fn ones(n: u32) -> u64 {
         return 0xffff_ffff_ffff_ffff;
     }
     0xffff_ffff_ffff_ffffu64 >> (64 - n)
-}
-
-#[derive(Clone, Copy)]
-pub struct Operands {
-    pub left: u64,
-    pub right: u64,
-    pub carry: u32,
 }
 
 // Where sums wrap, signs change and bits alternate.
@@ -80,27 +73,26 @@ fn agrees_at_all(word: u32, n: u32) -> bool
     requires { n ≤ 7 }
 {
     let end = 2u64 << (2 * n);
-    let mut i: u64 = 0;
-    while i < end {
-        let carry = number((i >> (2 * n)) % 2 == 1);
-        if first_difference(word, n, i & ones(n), (i >> n) & ones(n), carry) != 4 {
+    for i in 0..end {
+        let operands = Operands {
+            left: i & ones(n),
+            right: (i >> n) & ones(n),
+            carry: ((i >> (2 * n)) % 2) as u32,
+        };
+        if first_difference(word, n, operands) != Ok(None) {
             return false;
         }
-        i += 1;
     }
     true
 }
 
 fn agrees_at_many(word: u32, n: u32) -> bool {
     let mut x = next((word as u64) ^ ((n as u64) << 40));
-    let mut i: u32 = 0;
-    while i < 200 {
-        let operands = sampled(n, i, x);
-        if first_difference(word, n, operands.left, operands.right, operands.carry) != 4 {
+    for i in 0..200 {
+        if first_difference(word, n, sampled(n, i, x)) != Ok(None) {
             return false;
         }
         x = next(next(next(x)));
-        i += 1;
     }
     true
 }
@@ -113,7 +105,8 @@ pub fn is_right(word: u32, n: u32) -> bool {
     agrees_at_many(word, n)
 }
 
-// What is said of a wrong recipe: its source function, the lowest port that differs, and operands at which it does.
+// What is said of a wrong recipe: its source function, the number of the lowest port that differs, and operands at which it does.
+// Kept: a type like that of `words`, since the second account stands on no crate that it is compared with.
 #[derive(Clone, Copy)]
 pub struct Witness {
     pub function: u32,
@@ -126,8 +119,13 @@ pub struct Witness {
 // Whether a witness shows that a recipe is wrong: of the word's source function, at operands in range, with the lowest port that differs
 // there.
 pub fn bears_out(word: u32, n: u32, w: Witness) -> bool {
-    let carry = number(w.carry);
-    (w.function == fields_of(word).source)
-        & (w.port < 4)
-        & (first_difference(word, n, w.left, w.right, carry) == w.port)
+    let operands = Operands {
+        left: w.left,
+        right: w.right,
+        carry: w.carry as u32,
+    };
+    let Ok(Some(port)) = first_difference(word, n, operands) else {
+        return false;
+    };
+    (w.function == fields_of(word).source) & (w.port == port.number())
 }

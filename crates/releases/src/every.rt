@@ -1,8 +1,8 @@
 // Every number up to 63 on the largest bench, with each function bound to itself and with nothing bound.
 use accounts::sound::{BENCH_WORDS, BOUND, WIDTH};
 use bench_calls::calls;
-use bench_calls::files::{counted, same_bench, whole_bench};
-use reference::answer::{Answer, DONE, OF_WORD, answered, same_answer};
+use bench_calls::files::{counted, whole_bench};
+use reference::answer::{Answer, Given, Subject, refused};
 use testing::say;
 use testing::tally::more;
 use testing::words::put;
@@ -17,15 +17,14 @@ struct Tally {
 
 fn expected_answer(is_bound: bool, function: u32) -> Answer {
     if is_bound {
-        return answered(DONE, 0, 0);
+        return Ok(Given::Nothing);
     }
-    answered(OF_WORD, 24, function as usize)
+    Err(refused(Subject::Word, 24, function as usize))
 }
 
 fn with(all: Tally, bench: [u32; BENCH_WORDS], function: u32, is_bound: bool) -> Tally {
     let told = calls::release(bench, function);
     let answer = told.answer;
-    let next = told.bench;
     let mut expected = bench;
     if is_bound {
         put(
@@ -34,11 +33,10 @@ fn with(all: Tally, bench: [u32; BENCH_WORDS], function: u32, is_bound: bool) ->
             0,
         );
     }
-    let same = same_answer(answer, expected_answer(is_bound, function))
-        & same_bench(&next, &counted(expected));
+    let same = (answer == expected_answer(is_bound, function)) & (told.bench == counted(expected));
     Tally {
         tried: more(all.tried, true),
-        released: more(all.released, answer.form == DONE),
+        released: more(all.released, answer.is_ok()),
         differ: more(all.differ, !same),
     }
 }
@@ -49,12 +47,9 @@ fn report_bench(rt: &HostRuntime, name: &[u8], bench: [u32; BENCH_WORDS], all_bo
         released: 0,
         differ: 0,
     };
-    let mut function: u32 = 0;
-    while function < 64 {
+    for function in 0..64 {
         let is_source = (function > 0) & (function < 28);
-        let next = with(all, bench, function, is_source & all_bound);
-        all = next;
-        function += 1;
+        all = with(all, bench, function, is_source & all_bound);
     }
     say::text(rt, name);
     say::line(
@@ -66,11 +61,7 @@ fn report_bench(rt: &HostRuntime, name: &[u8], bench: [u32; BENCH_WORDS], all_bo
 
 fn emptied(bench: [u32; BENCH_WORDS]) -> [u32; BENCH_WORDS] {
     let mut empty = bench;
-    let mut i = BOUND;
-    while i < WIDTH {
-        empty[i] = 0;
-        i += 1;
-    }
+    empty[BOUND..WIDTH].fill(0);
     counted(empty)
 }
 

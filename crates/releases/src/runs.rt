@@ -1,12 +1,9 @@
 // Random runs of binds and releases, each answer and each bench beside the account's; and at the end of a run the list bound again, in its
 // own order, from the bench with nothing bound.
-use crate::account;
-use crate::account::{List, bench_of, empty_list};
+use crate::account::{List, answer_to, bench_of};
 use accounts::sound::{BENCH_WORDS, WIDTH};
-use bench_calls::calls::Told;
-use bench_calls::files::same_bench;
+use bench_calls::steps::Step;
 use bench_calls::{calls, lines};
-use reference::answer::{Answer, DONE, same_answer};
 use reference::trial::next;
 use testing::say;
 use testing::tally::more;
@@ -102,72 +99,45 @@ fn rule_of(function: u32, random: u64) -> u32 {
     plain
 }
 
-// After a step: what was told beside the answer and the list of the account.
-fn after(
-    run: Run,
-    told: Told,
-    expected: Answer,
-    list: List,
-    tables: [u32; BENCH_WORDS],
-    binds: bool,
-) -> Run {
+// After a step: what was told beside the answer of the account, and its list, which is another where the step was to be done.
+fn with_step(run: Run, tables: [u32; BENCH_WORDS], step: Step) -> Run {
+    let before = run.list;
+    let told = step.taken_on(run.bench);
     let answer = told.answer;
     let bench = told.bench;
-    let known = bench_of(tables, list);
-    let same = same_answer(answer, expected) & same_bench(&bench, &known);
-    let done = answer.form == DONE;
+    let expected = answer_to(&tables, before, step);
+    let list = if expected.is_ok() {
+        before.after(step)
+    } else {
+        before
+    };
+    let same = answer == expected && bench == bench_of(tables, list);
+    let done = answer.is_ok();
+    let binds = matches!(step, Step::Bind(_));
     Run {
         bench,
         list,
-        bound: more(run.bound, done & binds),
-        released: more(run.released, done & !binds),
+        bound: more(run.bound, done && binds),
+        released: more(run.released, done && !binds),
         refused: more(run.refused, !done),
         differ: more(run.differ, !same),
     }
 }
 
-fn with_bind(run: Run, tables: [u32; BENCH_WORDS], rule: u32) -> Run {
-    let list = run.list;
-    let bench = run.bench;
-    let expected = account::bind_answer(&tables, list, rule);
-    let told = calls::bind(bench, rule);
-    if expected.form == DONE {
-        return after(run, told, expected, account::with(list, rule), tables, true);
-    }
-    after(run, told, expected, list, tables, true)
-}
-
-fn with_release(run: Run, tables: [u32; BENCH_WORDS], function: u32) -> Run {
-    let list = run.list;
-    let bench = run.bench;
-    let expected = account::release_answer(list, function);
-    let told = calls::release(bench, function);
-    if expected.form == DONE {
-        return after(
-            run,
-            told,
-            expected,
-            account::without(list, function),
-            tables,
-            false,
-        );
-    }
-    after(run, told, expected, list, tables, false)
-}
-
 // A bind so often out of 64 times, else a release.
-fn with_step(run: Run, tables: [u32; BENCH_WORDS], random: u64, binds: u64) -> Run {
+fn step_of(random: u64, binds: u64) -> Step {
     let function = (random / 64 % 30) as u32;
     if random % 64 < binds {
-        return with_bind(run, tables, rule_of(function % 28, random / 2048));
+        Step::Bind(rule_of(function % 28, random / 2048))
+    } else {
+        Step::Release(function)
     }
-    with_release(run, tables, function)
 }
 
 fn begun(tables: [u32; BENCH_WORDS]) -> Run {
     Run {
         bench: tables,
-        list: empty_list(),
+        list: List::empty(),
         bound: 0,
         released: 0,
         refused: 0,
@@ -177,16 +147,10 @@ fn begun(tables: [u32; BENCH_WORDS]) -> Run {
 
 // The list bound again from the first on.
 fn bound_again(tables: [u32; BENCH_WORDS], list: List) -> [u32; BENCH_WORDS] {
-    let rules = list.rules;
     let mut bench = tables;
-    let mut i = 0;
-    while i < 27 {
-        if i < list.size {
-            let told = calls::bind(bench, rules[i]);
-            let next = told.bench;
-            bench = next;
-        }
-        i += 1;
+    for rule in list.rules() {
+        let told = calls::bind(bench, *rule);
+        bench = told.bench;
     }
     bench
 }
@@ -194,12 +158,9 @@ fn bound_again(tables: [u32; BENCH_WORDS], list: List) -> [u32; BENCH_WORDS] {
 fn run_of(tables: [u32; BENCH_WORDS], binds: u64) -> Run {
     let mut run = begun(tables);
     let mut random: u64 = 88172645463325252 ^ binds;
-    let mut i: u32 = 0;
-    while i < 20000 {
+    for _ in 0..20000 {
         random = next(random);
-        let stepped = with_step(run, tables, random >> 8, binds);
-        run = stepped;
-        i += 1;
+        run = with_step(run, tables, step_of(random >> 8, binds));
     }
     run
 }
@@ -207,7 +168,6 @@ fn run_of(tables: [u32; BENCH_WORDS], binds: u64) -> Run {
 fn report_run(rt: &HostRuntime, width: u32, binds: u64) {
     let tables = tables_at(width);
     let run = run_of(tables, binds);
-    let last = run.bench;
     let list = run.list;
     let again = bound_again(tables, list);
     say::line(
@@ -219,13 +179,14 @@ fn report_run(rt: &HostRuntime, width: u32, binds: u64) {
             run.released,
             run.refused,
             run.differ,
-            list.size as u64,
+            list.rules().len() as u64,
         ],
     );
     lines::whether(
         rt,
-        same_bench(&again, &last),
-        b"the same bench when bound again\n|ANOTHER BENCH WHEN BOUND AGAIN\n",
+        again == run.bench,
+        b"the same bench when bound again\n",
+        b"ANOTHER BENCH WHEN BOUND AGAIN\n",
     );
 }
 

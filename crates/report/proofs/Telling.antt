@@ -1,10 +1,11 @@
 -- Values put into a caller's words, if they are enough; and what a report holds.
 use mathlib.Core.Path.{◌≡◌, refl, ap, subst, ◌∙◌}
-use mathlib.Core.List.{List}
+use mathlib.Core.List.{List, ◌++◌}
 use Prim.Native.Nat.{ℕ, suc, ◌+◌, ◌-◌, ◌≤◌, ◌<◌}
 use native.Mathlib.Omega.{arith}
 use lib.ListN.{length, drop, get_or, set, replicate, drop_of_length-le, length-append}
 use lib.Seq.{sets, take-append_seam}
+use Rattle.std.proofs.lemmas.List.Edits.{sets-eq}
 use borrow.Author.Tests.{lt-ltb, le-ltb}
 use Rattle.words.proofs.Lists.{drop-next}
 use Rattle.words.specs.Paper.{Paper}
@@ -17,16 +18,12 @@ module _ (values lent : List ℕ) where
   unfolding lent_after
   too_few h = rw (lt-ltb (length lent) (length values) h) refl
 
-  pub one_put : (now whole : List ℕ) (i : ℕ) → i < length values → sets now i (drop i values) ≡ whole
-      → sets (set now i (get_or values i 0)) (i + 1) (drop (i + 1) values) ≡ whole
-  one_put now whole i h e =
-      let q : i + 1 ≡ suc i = omega arith in rw q (rw (drop-next values i h, q) at e)
-
-  pub all_put : (now : List ℕ) (i : ℕ) → length values ≤ i → length values ≤ length lent
-      → sets now i (drop i values) ≡ sets lent 0 values → now ≡ lent_after values lent
+  pub all_put : (part : List ℕ) → part ≡ values → length values ≤ length lent → part ++ drop (length values) lent ≡ lent_after values lent
   unfolding lent_after
-  all_put now i h l e =
-      rw (le-ltb (length lent) (length values) l) (rw (drop_of_length-le values h) at e)
+  all_put part e l =
+      let z : 0 + length values ≡ length values = omega arith in
+      let s : sets lent 0 values ≡ values ++ drop (0 + length values) lent = sets-eq values lent 0 (omega arith) in
+      rw (le-ltb (length lent) (length values) l, e, s, z) refl
 
 -- ---- a report holds its answer
 

@@ -97,11 +97,7 @@ fn put_values(values: &[u64], out: &mut [u64])
     if out.len() < values.len() {
         return;
     }
-    let mut i = 0;
-    while i < values.len() {
-        out[i] = values[i];
-        i += 1;
-    }
+    out[..values.len()].copy_from_slice(values);
 }
 
 // Tells a report: the number is returned.

@@ -13,13 +13,11 @@ pub fn first_wrong(job: Job, sources: &[u32], targets: &[u32], bindings: &[u32])
     requires { Q.Width job.width }
     ensures { W.SaysOfAll (T.terms_with job sources.now targets.now) bindings.now result }
 {
-    let mut i = 0;
-    while i < bindings.len() {
-        let verdict = claims::verdict_on(sources, targets, bindings[i], job.width);
+    for word in bindings {
+        let verdict = claims::verdict_on(sources, targets, *word, job.width);
         let Verdict::Right = verdict else {
             return verdict;
         };
-        i += 1;
     }
     Verdict::Right
 }

@@ -1,68 +1,41 @@
-// A checker and a pricer of mappings, as numbers.
+// A checker and a pricer of mappings.
 use accounts::glue::{Costs, glue_count};
-use accounts::reading::{function, read, width_of};
-use reference::answer::{Answer, OF_BOTH, OF_JOB, OF_MAPPING, PRICED, answered};
+use accounts::reading::{function, read_job, read_mapping, width_of};
+use reference::answer::{Refusal, Subject, refused, wrong};
 use reference::recipe::fields_of;
 use reference::trial::{Witness, bears_out, is_right};
 use std::num::wrapping_sub_usize;
 use testing::words::{at, bindings_of, content, kind};
 
-// The index of the word of a kind for a function, or 0.
-pub fn index_of(words: &[u32], of: u32, function_sought: u32) -> usize {
-    let mut i = 0;
-    while i < words.len() {
-        let word = at(words, i);
-        if (kind(word) == of) & (function(word) == function_sought) {
-            return i;
-        }
-        i += 1;
-    }
-    0
+// The index of the word of a kind for a function.
+fn index_of(words: &[u32], of: u32, function_sought: u32) -> Option<usize> {
+    words.iter().position(|word| (kind(*word) == of) & (function(*word) == function_sought))
 }
 
-// The index of the first binding of or from a function that the job has not, or 0.
-fn first_stranger(job: &[u32], mapping: &[u32]) -> usize {
-    let mut i = 1;
-    while i < mapping.len() {
-        let fields = fields_of(at(mapping, i));
-        if fields.kind == 6 {
-            if index_of(job, 3, fields.source) == 0 {
-                return i;
-            }
-            if (fields.target != 0) & (index_of(job, 4, fields.target) == 0) {
-                return i;
-            }
-        }
-        i += 1;
-    }
-    0
+// Whether there is a word of a kind for a function.
+pub fn has_word(words: &[u32], of: u32, function_sought: u32) -> bool {
+    index_of(words, of, function_sought).is_some()
 }
 
-// The lowest source that has no binding, or 0.
-fn lowest_unbound(job: &[u32], mapping: &[u32]) -> u32 {
-    let mut f = 1;
-    while f < 28 {
-        if (index_of(job, 3, f) != 0) & (index_of(mapping, 6, f) == 0) {
-            return f;
-        }
-        f += 1;
-    }
-    0
+// Whether a word is a binding of or from a function that the job has not.
+fn is_stranger(job: &[u32], word: u32) -> bool {
+    let fields = fields_of(word);
+    let is_known = has_word(job, 3, fields.source)
+        & ((fields.target == 0) | has_word(job, 4, fields.target));
+    (fields.kind == 6) & !is_known
 }
 
-// The lowest function whose binding is found wrong, or 0.
-fn first_found_wrong(mapping: &[u32], n: u32) -> u32 {
-    let mut i = 0;
-    while i < mapping.len() {
-        let word = at(mapping, i);
-        if kind(word) == 6 {
-            if !is_right(word, n) {
-                return function(word);
-            }
-        }
-        i += 1;
-    }
-    0
+// The lowest source that has no binding.
+fn lowest_unbound(job: &[u32], mapping: &[u32]) -> Option<u32> {
+    (1..28).find(|f| has_word(job, 3, *f) & !has_word(mapping, 6, *f))
+}
+
+// The lowest function whose binding is found wrong.
+fn first_found_wrong(mapping: &[u32], n: u32) -> Option<u32> {
+    mapping
+        .iter()
+        .find(|word| (kind(**word) == 6) && !is_right(**word, n))
+        .map(|word| function(*word))
 }
 
 // The glue count of a mapping's bindings at a job's width and prices.
@@ -81,77 +54,57 @@ pub fn count_for(job: &[u32], mapping: &[u32]) -> u64 {
     glue_count(bindings_of(mapping), costs)
 }
 
-// 1 to 8, or number 0.
-fn before_pricing(job: &[u32], mapping: &[u32]) -> Answer {
-    let of_job = read(true, job);
-    if of_job.number != 0 {
-        return answered(OF_JOB, of_job.number, of_job.place);
+// 1 to 8.
+fn before_pricing(job: &[u32], mapping: &[u32]) -> Result<(), Refusal> {
+    let of_job = read_job(job)?;
+    let own = read_mapping(mapping)?;
+    if of_job.width != own.width {
+        return Err(refused(Subject::Both, 7, 0));
     }
-    let own = read(false, mapping);
-    if own.number != 0 {
-        return answered(OF_MAPPING, own.number, own.place);
+    if let Some(stranger) = mapping.iter().position(|word| is_stranger(job, *word)) {
+        return Err(refused(Subject::Both, 8, stranger));
     }
-    if width_of(job) != width_of(mapping) {
-        return answered(OF_BOTH, 7, 0);
-    }
-    let stranger = first_stranger(job, mapping);
-    if stranger != 0 {
-        return answered(OF_BOTH, 8, stranger);
-    }
-    answered(OF_BOTH, 0, 0)
+    Ok(())
 }
 
 // What a pricer answers.
-pub fn price(job: &[u32], mapping: &[u32]) -> Answer {
-    let refusal = before_pricing(job, mapping);
-    if refusal.number != 0 {
-        return refusal;
-    }
-    answered(
-        PRICED,
-        0,
-        (count_for(job, mapping) % 0x1_0000_0000) as usize,
-    )
+pub fn price(job: &[u32], mapping: &[u32]) -> Result<u32, Refusal> {
+    before_pricing(job, mapping)?;
+    Ok((count_for(job, mapping) % 0x1_0000_0000) as u32)
 }
 
-// 1 to 9, or number 0.
-fn before_rightness(job: &[u32], mapping: &[u32]) -> Answer {
-    let refusal = before_pricing(job, mapping);
-    if refusal.number != 0 {
-        return refusal;
+// 1 to 9.
+fn before_rightness(job: &[u32], mapping: &[u32]) -> Result<(), Refusal> {
+    before_pricing(job, mapping)?;
+    if let Some(unbound) = lowest_unbound(job, mapping) {
+        return Err(refused(Subject::Both, 9, unbound as usize));
     }
-    let unbound = lowest_unbound(job, mapping);
-    if unbound != 0 {
-        return answered(OF_BOTH, 9, unbound as usize);
-    }
-    refusal
+    Ok(())
 }
 
 // What a checker answers, 10 as far as it is found.
-pub fn check(job: &[u32], mapping: &[u32]) -> Answer {
-    let refusal = before_rightness(job, mapping);
-    if refusal.number != 0 {
-        return refusal;
-    }
-    let wrong = first_found_wrong(mapping, width_of(job));
-    if wrong != 0 {
-        return answered(OF_BOTH, 10, wrong as usize);
+pub fn check(job: &[u32], mapping: &[u32]) -> Result<(), Refusal> {
+    before_rightness(job, mapping)?;
+    if let Some(function) = first_found_wrong(mapping, width_of(job)) {
+        return Err(wrong(Subject::Both, function, true));
     }
     let last = wrapping_sub_usize(mapping.len(), 1);
     if count_for(job, mapping) != content(at(mapping, last)) as u64 {
-        return answered(OF_BOTH, 11, last);
+        return Err(refused(Subject::Both, 11, last));
     }
-    refusal
+    Ok(())
 }
 
 // Whether refusal 10 is borne out: nothing comes before it, its witness shows that the function's binding is wrong, and no lower
 // function's binding is found wrong.
 pub fn wrong_is_borne_out(job: &[u32], mapping: &[u32], witness: Witness) -> bool {
     let n = width_of(job);
-    let word = at(mapping, index_of(mapping, 6, witness.function));
-    let found = first_found_wrong(mapping, n);
-    (before_rightness(job, mapping).number == 0)
-        & (kind(word) == 6)
-        & bears_out(word, n, witness)
-        & ((found == 0) | (witness.function <= found))
+    let Some(index) = index_of(mapping, 6, witness.function) else {
+        return false;
+    };
+    let is_lowest = match first_found_wrong(mapping, n) {
+        Some(found) => witness.function <= found,
+        None => true,
+    };
+    before_rightness(job, mapping).is_ok() & bears_out(at(mapping, index), n, witness) & is_lowest
 }

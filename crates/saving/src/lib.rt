@@ -18,11 +18,9 @@ fn put_file(words: &[u32], out: &mut [u8]) -> usize
     ensures text { P.Puts out.old 0 (F.file_of words.now) out.new result }
 {
     let mut at = 0;
-    let mut i = 0;
-    while i < words.len() {
-        let bytes = files::bytes_of(words[i]);
+    for word in words {
+        let bytes = files::bytes_of(*word);
         at = text::put(&bytes, out, at);
-        i += 1;
     }
     at
 }

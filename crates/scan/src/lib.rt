@@ -5,12 +5,11 @@ ghost use Rattle.std.specs.Prelude.{◌≡◌, ◌≤◌, length};
 ghost use Rattle.sequence.specs.Limits.{most_job_words};
 ghost use Rattle.grammar.specs.Reading as R;
 
-use grammar::{Reading, Step};
 use sequence::{File, START, State};
 use words::Refusal;
 
 // Word by word: the state after the last one, or the first refusal.
-pub fn read_words(file: File, words: &[u32]) -> Reading
+pub fn read_words(file: File, words: &[u32]) -> Result<State, Refusal>
     requires { length words.now ≤ most_job_words }
     ensures { result ≡ R.reading file R.beginning 0 words.now }
 {
@@ -22,18 +21,11 @@ pub fn read_words(file: File, words: &[u32]) -> Reading
         rules: 0,
         bindings: 0,
     };
-    let mut i = 0;
-    while i < words.len() {
-        let taken = grammar::pass(file, s, words[i]);
-        match taken {
-            Step::Next(t) => {
-                s = t;
-            }
-            Step::Bad(number) => {
-                return Reading::Stopped(Refusal { number, place: i });
-            }
+    for (place, word) in words.iter().enumerate() {
+        match grammar::pass(file, s, *word) {
+            Ok(next) => s = next,
+            Err(number) => return Err(Refusal { number, place }),
         }
-        i += 1;
     }
-    Reading::Passed(s)
+    Ok(s)
 }

@@ -9,15 +9,18 @@ ghost use Rattle.equivalence.specs.Sets as F;
 ghost use Rattle.search.specs.Search as S;
 
 use binding::{Recipe, Side};
-use equivalence::{moves, rounds, witness};
+use equivalence::moves::{self, Tables};
+use equivalence::{rounds, witness};
 
-// Whether a recipe shows what a source side shows at all operands, or operands and a carry at which it does not.
+// Operands and a carry at which a recipe does not show what a source side shows.
 #[derive(Clone, Copy)]
-pub enum Outcome {
-    Holds,
-    Fails(u64, u64, bool),
+pub struct Counterexample {
+    pub left: u64,
+    pub right: u64,
+    pub carry: bool,
 }
 
+#[tactic(auto, unfolding(bits::specs::Bits::bit))]
 fn is_in(set: u64, i: u8) -> bool
     requires { i < 64 }
     ensures { result ≡ B.bit set i }
@@ -26,33 +29,38 @@ fn is_in(set: u64, i: u8) -> bool
 }
 
 // From the start states without and with a carry, with k + 1 places to go.
-fn decide(moves: &[u8], tops: &[u8], k: usize, plain: u8, carried: u8) -> Outcome
-    requires { F.TableSizes moves.now tops.now × (k < 64) × (plain < 64) × (carried < 64) }
-    ensures { S.Concluded moves.now tops.now k plain carried result }
+fn decide(tables: &Tables, k: usize, plain: u8, carried: u8) -> Option<Counterexample>
+    requires { F.TableSizes tables.now.moves tables.now.tops × (k < 64) × (plain < 64) × (carried < 64) }
+    ensures { S.Concluded tables.now.moves tables.now.tops k plain carried result }
 {
-    let found = rounds::failing_sets(moves, tops, k);
-    let sets = found.sets;
-    let last = found.last;
-    let set = sets[last];
+    let rounds = rounds::failing_sets(tables, k);
+    let set = rounds.sets[rounds.last];
     if is_in(set, plain) {
-        let w = witness::walk(moves, tops, &sets, last, k, plain as usize);
-        return Outcome::Fails(w.left, w.right, false);
+        let w = witness::walk(tables, &rounds, k, plain as usize);
+        return Some(Counterexample {
+            left: w.left,
+            right: w.right,
+            carry: false,
+        });
     }
     if is_in(set, carried) {
-        let w = witness::walk(moves, tops, &sets, last, k, carried as usize);
-        return Outcome::Fails(w.left, w.right, true);
+        let w = witness::walk(tables, &rounds, k, carried as usize);
+        return Some(Counterexample {
+            left: w.left,
+            right: w.right,
+            carry: true,
+        });
     }
-    Outcome::Holds
+    None
 }
 
-pub fn search(s: Side, t: Recipe, n: u32) -> Outcome
+// Nothing where the recipe shows what the source side shows at all operands and both carries.
+pub fn search(s: Side, t: Recipe, n: u32) -> Option<Counterexample>
     requires { Q.Width n }
     ensures { S.Found s t n result }
 {
     let tables = moves::tabulate(s, t);
-    let moves = tables.moves;
-    let tops = tables.tops;
     let plain = moves::index_of(automaton::first(s, t, false));
     let carried = moves::index_of(automaton::first(s, t, true));
-    decide(&moves, &tops, (n - 1) as usize, plain, carried)
+    decide(&tables, (n - 1) as usize, plain, carried)
 }

@@ -3,25 +3,21 @@
 
 ghost use Rattle.std.specs.Prelude.{◌≤◌};
 
-use console::Got;
 use describe::MOST_WORD_BYTES;
 
-// The bytes of a word so far, how many they are, and whether standard input has ended or a line could not be written.
+// The bytes of a word so far, and how many they are.
 #[derive(Clone, Copy)]
 struct Word {
     bytes: [u8; 4],
     kept: usize,
-    ended: bool,
+    ghost few: { kept ≤ 3 },
 }
 
 // Before the first byte of a word.
-fn next_word(ended: bool) -> Word
-    ensures { result.kept ≤ 3 }
-{
+fn next_word() -> Word {
     Word {
         bytes: [0; 4],
         kept: 0,
-        ended,
     }
 }
 
@@ -34,41 +30,28 @@ fn show(rt: &HostRuntime, bytes: [u8; 4]) -> bool {
     console::print(rt, &line[..end])
 }
 
-// The end of standard input: a word of which some bytes came is cut short.
-fn finish(rt: &HostRuntime, kept: usize) -> Word
-    ensures { result.kept ≤ 3 }
-{
-    if 0 < kept {
-        console::tell(rt, b"show_words: the last word is cut short\n");
-    }
-    next_word(true)
-}
-
 impl Word {
-    // A byte more; the fourth has the word shown.
-    fn with(mut self, rt: &HostRuntime, byte: u8) -> Word
-        requires { self.kept ≤ 3 }
-        ensures { result.kept ≤ 3 }
-    {
-        let at = self.kept;
-        self.bytes[at] = byte;
-        if at < 3 {
-            self.kept = at + 1;
-            return self;
+    // The word after a byte more; the fourth has it shown. There is none where its line cannot be written.
+    fn with(self, rt: &HostRuntime, byte: u8) -> Option<Word> {
+        let mut bytes = self.bytes;
+        bytes[self.kept] = byte;
+        if self.kept < 3 {
+            return Some(Word {
+                bytes,
+                kept: self.kept + 1,
+            });
         }
-        let shown = show(rt, self.bytes);
-        next_word(!shown)
+        if show(rt, bytes) {
+            Some(next_word())
+        } else {
+            None
+        }
     }
 
-    // What comes after what was got.
-    fn after(self, rt: &HostRuntime, got: Got) -> Word
-        requires { self.kept ≤ 3 }
-        ensures { result.kept ≤ 3 }
-    {
-        match got {
-            Got::Byte(byte) => self.with(rt, byte),
-            Got::End => finish(rt, self.kept),
-            Got::Failed => next_word(true),
+    // The end of standard input: a word of which some bytes came is cut short.
+    fn end(self, rt: &HostRuntime) {
+        if 0 < self.kept {
+            console::tell(rt, b"show_words: the last word is cut short\n");
         }
     }
 }
@@ -76,22 +59,21 @@ impl Word {
 // More bytes than standard input has.
 const MOST: usize = 2305843009213693952;
 
-// Shows the words of standard input until it ends or a line cannot be written.
+// Shows the words of standard input until it ends, a read fails or a line cannot be written.
 fn show_all(rt: &HostRuntime) {
     let mut stdin = console::unread();
-    let mut word = next_word(false);
-    let mut bytes = 0;
-    while bytes < MOST {
-        let taken = stdin.next(rt);
-        let got = taken.got;
-        let after = word.after(rt, got);
-        if after.ended {
+    let mut word = next_word();
+    for _ in 0..MOST {
+        let Ok(got) = stdin.next(rt) else {
             return;
-        }
-        let rest = taken.stdin;
-        stdin = rest;
+        };
+        let Some(byte) = got else {
+            return word.end(rt);
+        };
+        let Some(after) = word.with(rt, byte) else {
+            return;
+        };
         word = after;
-        bytes += 1;
     }
 }
 

@@ -1,13 +1,11 @@
 -- The glue count of what is bound: what the filled entries use, and the count of that set.
 use mathlib.Core.Path.{◌≡◌, refl, sym, ap, ◌∙◌}
 use mathlib.Core.Bool.{Bool, true, false}
-use mathlib.Core.List.{List, ◌∷◌}
-use Prim.Native.Nat.{ℕ, ◌+◌, ◌≤◌, ◌<◌}
+use mathlib.Core.List.{List, [], ◌∷◌}
+use Prim.Native.Nat.{ℕ, ◌≤◌}
 use lib.Bits.{bit_or, or_zero_r}
 use lib.Dec.{eqb}
-use lib.ListN.{length, drop, get_or, drop_of_length-le}
-use Rattle.std.specs.Prelude.{if◌then◌else◌}
-use Rattle.words.proofs.Lists.{drop-next}
+use Rattle.std.specs.Prelude.{fold, if◌then◌else◌}
 use Rattle.bits.specs.Asked.{Width}
 use Rattle.usage.specs.Sets.{usage_of, usage}
 use Rattle.usage.proofs.Joining.{or_assoc}
@@ -27,18 +25,15 @@ usage-filled w bs = go (eqb w 0)
     go true = refl
     go false = refl
 
-module _ (bs : List ℕ) (i u : ℕ) (e : bit_or u (usage (filled (drop i bs))) ≡ usage (filled bs)) where
-  pub all_used : length bs ≤ i → u ≡ usage (filled bs)
-  unfolding filled usage
-  all_used h = sym (or_zero_r u) ∙ (rw (drop_of_length-le bs h) at e)
+folded : (bs : List ℕ) (s : ℕ) → fold (λ u w. bit_or u (if eqb w 0 then 0 else usage_of w)) s bs ≡ bit_or s (usage (filled bs))
+unfolding filled usage
+folded [] s = sym (or_zero_r s)
+folded (w ∷ bs) s =
+    let x = if eqb w 0 then 0 else usage_of w in
+    folded bs (bit_or s x) ∙ or_assoc s x (usage (filled bs)) ∙ ap (bit_or s) (sym (usage-filled w bs))
 
-  pub one_used : (x : ℕ) → i < length bs → x ≡ (if eqb (get_or bs i 0) 0 then 0 else usage_of (get_or bs i 0))
-      → bit_or (bit_or u x) (usage (filled (drop (i + 1) bs))) ≡ usage (filled bs)
-  one_used x h ex =
-      or_assoc u x (usage (filled (drop (i + 1) bs)))
-      ∙ ap (λ (y : ℕ). bit_or u (bit_or y (usage (filled (drop (i + 1) bs))))) ex
-      ∙ ap (bit_or u) (sym (usage-filled (get_or bs i 0) (drop (i + 1) bs)))
-      ∙ (rw (drop-next bs i h) at e)
+pub all_used : (bs : List ℕ) → fold (λ u w. bit_or u (if eqb w 0 then 0 else usage_of w)) 0 bs ≡ usage (filled bs)
+all_used bs = folded bs 0
 
 -- ---- the count
 

@@ -1,14 +1,15 @@
 -- The tests of soundness, one law for each way out, and what a sound bench holds.
 use mathlib.Core.Path.{◌≡◌, refl, sym, ap, ◌∙◌}
 use mathlib.Core.Bool.{Bool, true, false, not, ◌&&◌, false≢true}
-use mathlib.Core.List.{List, ◌∷◌, ◌++◌}
+use mathlib.Core.List.{List, [], ◌∷◌, ◌++◌}
 use Prim.Native.Nat.{ℕ, ◌+◌, ◌-◌, ◌*◌, ◌%◌, ◌^◌, ◌≤◌, ◌<◌}
 use native.Mathlib.Omega.{arith}
 use lib.Bits.{bit_or}
 use lib.Dec.{eqb, ltb}
 use lib.ListN.{length, take, drop, get_or, drop_of_length-le}
 use borrow.Author.Tests.{eq-eqb, ne_eqb, eqb-true, lt-ltb, le-ltb, le-leb, ltb-false, not-true, not-false}
-use Rattle.std.specs.Prelude.{if◌then◌else◌}
+use Rattle.std.specs.Prelude.{if◌then◌else◌, Result, Ok}
+use Rattle.std.specs.List.{list_all}
 use Rattle.words.specs.Field.{kind_of, source_function, word_of}
 use Rattle.words.specs.Kinds.{HEADER, RULE}
 use Rattle.words.proofs.Choices.{either}
@@ -23,8 +24,7 @@ use Rattle.binding.specs.Right.{is_right}
 use Rattle.sequence.specs.Limits.{most_sources, most_targets}
 use Rattle.reader.specs.Job.{job_of}
 use Rattle.reader.specs.declared.Job.{Job}
-use Rattle.reader.specs.declared.JobRead.{JobRead}
-use Rattle.reader.specs.declared.JobRead.TheVariants.{Accepted}
+use Rattle.words.specs.declared.Refusal.{Refusal}
 use Rattle.table.specs.Table.{has_target}
 use Rattle.claims.specs.Claim.{claim_in}
 use Rattle.soundness.specs.Sound.{sources_on, targets_on, prices_word, table_words, holds, tables_sound, empty, rule_fault, bindable, entry_sound, bound_sound, glue_on, is_sound}
@@ -81,28 +81,24 @@ module _ (n : ℕ) (ss ts : List ℕ) (s w : ℕ) where
 
 -- ---- empty entries
 
-module _ (ws : List ℕ) (i : ℕ) (e : empty (drop i ws) ≡ empty ws) where
-  pub none_filled : length ws ≤ i → true ≡ empty ws
-  unfolding empty
-  none_filled h = rw (drop_of_length-le ws h) at e
-
-  module _ (h : i < length ws) where
-    next_empty : (if not (eqb (get_or ws i 0) 0) then false else empty (drop (i + 1) ws)) ≡ empty ws
-    unfolding empty
-    next_empty = rw (drop-next ws i h) at e
-
-    pub filled-found : (get_or ws i 0 ≡ 0 → ⊥) → false ≡ empty ws
-    filled-found u = rw (ne_eqb (get_or ws i 0) 0 u) at next_empty
-
-    pub empty_passed : get_or ws i 0 ≡ 0 → empty (drop (i + 1) ws) ≡ empty ws
-    empty_passed u = rw (eq-eqb (get_or ws i 0) 0 u) at next_empty
+pub all_empty : (ws : List ℕ) → list_all (λ w. eqb w 0) ws ≡ empty ws
+unfolding empty
+all_empty [] = refl
+all_empty (w ∷ ws) = go (eqb w 0) (all_empty ws)
+  where
+    go : (b : Bool) → list_all (λ v. eqb v 0) ws ≡ empty ws → b && list_all (λ v. eqb v 0) ws ≡ (if not b then false else empty ws)
+    go true e = e
+    go false e = refl
 
 -- ---- the entries of the sources
 
 module _ (n : ℕ) (ss ts bs : List ℕ) (i : ℕ) (e : bound_sound n ss ts (drop i ss) (drop i bs) ≡ bound_sound n ss ts ss bs) where
-  pub past_sources : (r : Bool) → length ss ≤ i → r ≡ empty (take (length bs - i) (drop i bs)) → r ≡ bound_sound n ss ts ss bs
+  pub past_sources : (r : Bool) → length ss ≤ i → i ≤ length ss → r ≡ empty (take (length bs - length ss) (drop (length ss) bs))
+      → r ≡ bound_sound n ss ts ss bs
   unfolding bound_sound
-  past_sources r h er = er ∙ ap empty (part_from i bs) ∙ (rw (drop_of_length-le ss h) at e)
+  past_sources r h g er =
+      let k : length ss ≡ i = omega arith in
+      er ∙ ap empty (part_from (length ss) bs) ∙ ap (λ (x : ℕ). empty (drop x bs)) k ∙ (rw (drop_of_length-le ss h) at e)
 
   module _ (h : i < length ss) (g : length ss ≤ length bs) (x : Bool) (ex : x ≡ entry_sound n ss ts (get_or ss i 0) (get_or bs i 0)) where
     next_sound : (if not x then false else bound_sound n ss ts (drop (i + 1) ss) (drop (i + 1) bs)) ≡ bound_sound n ss ts ss bs
@@ -125,7 +121,7 @@ module _ (i g m : ℕ) (hi : i < 2 ^ 8) (hg : g < 2 ^ 8) (hm : m < 2 ^ 8) where
       let z : i * 2 ^ 16 % 2 ^ 32 ≡ i * 2 ^ 16 = omega arith in
       onto 8 m (laid g 8 8 z (omega arith) hg (omega arith)) (omega arith) hm
 
-pub as_accepted : (s t : ℕ) (r : JobRead) (job : Job) → r ≡ Accepted job → eqb job.sources s && eqb job.targets t ≡ holds s t r
+pub as_accepted : (s t : ℕ) (r : Result Job Refusal) (job : Job) → r ≡ Ok job → eqb job.sources s && eqb job.targets t ≡ holds s t r
 as_accepted s t r job e = rw e refl
 
 module _ (b : Tables) (p : Bool) (ep : p ≡ is_width b.width) where
@@ -147,7 +143,7 @@ module _ (b : Tables) (p : Bool) (ep : p ≡ is_width b.width) where
       many_targets h =
           rw (sym ep ∙ not-false p hp, le-ltb most_sources b.nsources hs, lt-ltb most_targets b.ntargets h) refl
 
-      pub tables_read : (header prices : ℕ) (read : JobRead) (r : Bool) → b.ntargets ≤ most_targets → header ≡ word_of HEADER b.width
+      pub tables_read : (header prices : ℕ) (read : Result Job Refusal) (r : Bool) → b.ntargets ≤ most_targets → header ≡ word_of HEADER b.width
           → prices ≡ prices_word b.prices
           → read ≡ job_of (header ∷ prices ∷ (sources_on b ++ targets_on b)) → r ≡ holds b.nsources b.ntargets read → r ≡ tables_sound b
       unfolding tables_sound

@@ -1,6 +1,6 @@
 -- Document 01, "Mapper and bench", and request #103: when a bench is sound. A bench is a job's tables, for each source in table order an
 -- entry for what is bound to it, and the count that it stores.
-use Rattle.std.specs.Prelude.{ℕ, ◌+◌, ◌*◌, ◌^◌, Bool, true, false, not, ◌&&◌, List, [], ◌∷◌, ◌++◌, eqb, ltb, take, drop, if◌then◌else◌}
+use Rattle.std.specs.Prelude.{ℕ, ◌+◌, ◌*◌, ◌^◌, Bool, true, false, not, ◌&&◌, List, [], ◌∷◌, ◌++◌, eqb, ltb, take, drop, if◌then◌else◌, Result, Ok, Err}
 use Rattle.words.specs.Field.{kind_of, source_function, word_of}
 use Rattle.words.specs.Kinds.{HEADER, PRICES, RULE}
 use Rattle.words.specs.Paper.{no_refusal}
@@ -11,8 +11,8 @@ use Rattle.layout.specs.Layout.{recipe_fault}
 use Rattle.binding.specs.Right.{is_right}
 use Rattle.sequence.specs.Limits.{most_sources, most_targets}
 use Rattle.reader.specs.Job.{job_of}
-use Rattle.reader.specs.declared.JobRead.{JobRead}
-use Rattle.reader.specs.declared.JobRead.TheVariants as read
+use Rattle.reader.specs.declared.Job.{Job}
+use Rattle.words.specs.declared.Refusal.{Refusal}
 use Rattle.table.specs.Table.{has_target}
 use Rattle.claims.specs.Claim.{claim_in}
 use Rattle.glue.specs.Glue.{glue}
@@ -51,9 +51,9 @@ abbrev pub table_words : Tables → List ℕ
 table_words t = word_of HEADER t.width ∷ prices_word t.prices ∷ (sources_on t ++ targets_on t)
 
 -- a job was accepted that has so many sources and targets
-abbrev pub holds : ℕ → ℕ → JobRead → Bool
-holds nsources ntargets (read.Refused r) = false
-holds nsources ntargets (read.Accepted job) = eqb job.sources nsources && eqb job.targets ntargets
+abbrev pub holds : ℕ → ℕ → Result Job Refusal → Bool
+holds nsources ntargets (Err r) = false
+holds nsources ntargets (Ok job) = eqb job.sources nsources && eqb job.targets ntargets
 
 -- "values in range, at least one source, sources and targets that a job's tables could hold, their number and order included"
 unfoldable pub tables_sound : Tables → Bool

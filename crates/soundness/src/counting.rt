@@ -20,13 +20,7 @@ fn entry_usage(word: u32) -> u64
 fn usage_of(bound: &[u32]) -> u64
     ensures { result ≡ U.usage (S.filled bound.now) }
 {
-    let mut used: u64 = 0;
-    let mut i = 0;
-    while i < bound.len() {
-        used = used | entry_usage(bound[i]);
-        i += 1;
-    }
-    used
+    bound.iter().fold(0, |used, word| used | entry_usage(*word))
 }
 
 // The glue count of what is bound.

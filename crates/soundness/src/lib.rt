@@ -32,14 +32,7 @@ pub struct Tables {
 fn is_empty(entries: &[u32]) -> bool
     ensures { result ≡ S.empty entries.now }
 {
-    let mut i = 0;
-    while i < entries.len() {
-        if entries[i] != NOTHING {
-            return false;
-        }
-        i += 1;
-    }
-    true
+    entries.iter().all(|entry| *entry == NOTHING)
 }
 
 // The refusal of a word as a rule: 2, 3, 5 or 6, or none.
@@ -84,14 +77,12 @@ fn bound_sound(n: u32, sources: &[u32], targets: &[u32], bound: &[u32]) -> bool
     requires { Q.Width n × (length sources.now ≤ length bound.now) }
     ensures { result ≡ S.bound_sound n sources.now targets.now sources.now bound.now }
 {
-    let mut i = 0;
-    while i < sources.len() {
-        if !entry_sound(n, sources, targets, sources[i], bound[i]) {
+    for (i, source) in sources.iter().enumerate() {
+        if !entry_sound(n, sources, targets, *source, bound[i]) {
             return false;
         }
-        i += 1;
     }
-    is_empty(&bound[i..])
+    is_empty(&bound[sources.len()..])
 }
 
 pub fn is_sound(tables: Tables, bound: [u32; MOST_SOURCES], glue: u32) -> bool

@@ -6,9 +6,9 @@ ghost use Rattle.sequence.specs.Limits.{most_sources, most_targets};
 ghost use Rattle.soundness.specs.Sound as S;
 
 use crate::Tables;
-use reader::{JobRead, SOURCES_START};
+use reader::{Job, SOURCES_START};
 use sequence::{MOST_SOURCES, MOST_TARGETS};
-use words::Prices;
+use words::{Prices, Refusal};
 
 // The most words of a job without rules.
 const MOST_WORDS: usize = SOURCES_START + MOST_SOURCES + MOST_TARGETS;
@@ -18,10 +18,8 @@ pub fn copy(words: &[u32], lent: &mut [u32], at: usize)
     requires { at + length words.now ≤ length lent.old }
     ensures { lent.new ≡ sets lent.old at words.now }
 {
-    let mut i = 0;
-    while i < words.len() {
-        lent[at + i] = words[i];
-        i += 1;
+    for (i, word) in words.iter().enumerate() {
+        lent[at + i] = *word;
     }
 }
 
@@ -38,7 +36,7 @@ fn prices_word(prices: Prices) -> u32
 }
 
 // Reads the job of a header, prices and tables that has no rules.
-fn read_tables(header: u32, prices: u32, sources: &[u32], targets: &[u32]) -> JobRead
+fn read_tables(header: u32, prices: u32, sources: &[u32], targets: &[u32]) -> Result<Job, Refusal>
     requires { (length sources.now ≤ most_sources) × (length targets.now ≤ most_targets) }
     ensures { result ≡ J.job_of (header ∷ prices ∷ (sources.now ++ targets.now)) }
 {
@@ -53,12 +51,12 @@ fn read_tables(header: u32, prices: u32, sources: &[u32], targets: &[u32]) -> Jo
 }
 
 // Whether the job was accepted with so many sources and targets.
-fn holds(nsources: u32, ntargets: u32, read: JobRead) -> bool
+fn holds(nsources: u32, ntargets: u32, read: Result<Job, Refusal>) -> bool
     ensures { result ≡ S.holds nsources ntargets read }
 {
     match read {
-        JobRead::Refused(_) => false,
-        JobRead::Accepted(job) => { (job.sources == nsources) & (job.targets == ntargets) }
+        Err(_) => false,
+        Ok(job) => { (job.sources == nsources) & (job.targets == ntargets) }
     }
 }
 

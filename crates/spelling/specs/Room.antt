@@ -1,4 +1,4 @@
--- How much room a spelling asks for: the size of its table's cells. Nobody has to believe this: each caller proves that it is there.
+-- How much room a spelling asks for: the longest of its table. Nobody has to believe this: each caller proves that it is there.
 use Rattle.std.specs.Prelude.{ℕ}
 use Rattle.spelling.specs.declared.Codes.{Codes}
 use Rattle.spelling.specs.declared.Codes.TheVariants.{Wiring, Carry, Main, CarryOut, Overflow, Comparison}

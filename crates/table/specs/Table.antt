@@ -1,17 +1,16 @@
 -- What stands in a job's tables of source and target words.
-use Rattle.std.specs.Prelude.{ℕ, Bool, true, false, not, List, [], ◌∷◌, eqb, if◌then◌else◌}
+use Rattle.std.specs.List.{list_any}
+use Rattle.std.specs.Prelude.{ℕ, Bool, true, false, not, List, eqb, if◌then◌else◌}
 use Rattle.words.specs.Field.{source_function, target_function}
 use Rattle.recipe.specs.Fields.{source_of, target_of, from_scratch}
 
 -- a function is among the sources
 unfoldable pub lists_source : List ℕ → ℕ → Bool
-lists_source [] f = false
-lists_source (s ∷ sources) f = if eqb (source_function s) f then true else lists_source sources f
+lists_source sources f = list_any (λ s. eqb (source_function s) f) sources
 
 -- a function is among the targets
 unfoldable pub lists_target : List ℕ → ℕ → Bool
-lists_target [] f = false
-lists_target (t ∷ targets) f = if eqb (target_function t) f then true else lists_target targets f
+lists_target targets f = list_any (λ t. eqb (target_function t) f) targets
 
 -- "its target is 0 or in the job"
 unfoldable pub has_target : List ℕ → ℕ → Bool

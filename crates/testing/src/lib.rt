@@ -2,7 +2,6 @@
 // contracts say only what safety needs.
 #![tactic(auto)]
 
-pub mod names;
 pub mod say;
 pub mod tally;
 pub mod words;

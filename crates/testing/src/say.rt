@@ -1,6 +1,5 @@
 // What a test writes.
 use crate::tally::Tally;
-use crate::words::at;
 
 pub fn text(rt: &HostRuntime, bytes: &[u8]) {
     let _ = rt.write_all(bytes);
@@ -18,19 +17,15 @@ pub fn count(rt: &HostRuntime, bytes: &[u8], n: u64) {
 
 // A text with the numbers in turn where it has a #, which are as many.
 pub fn line(rt: &HostRuntime, form: &[u8], numbers: &[u64]) {
-    let mut told = 0;
-    let mut i = 0;
-    while i < form.len() {
-        let byte = form[i];
-        if byte == b'#' {
-            if told < numbers.len() {
-                number(rt, numbers[told]);
-                told += 1;
+    let mut rest = numbers.iter();
+    for byte in form {
+        if *byte == b'#' {
+            if let Some(n) = rest.next() {
+                number(rt, *n);
             }
         } else {
-            text(rt, &[byte]);
+            text(rt, &[*byte]);
         }
-        i += 1;
     }
 }
 
@@ -42,10 +37,8 @@ pub fn word(rt: &HostRuntime, bytes: &[u8], w: u32) {
 
 pub fn words(rt: &HostRuntime, bytes: &[u8], words: &[u32]) {
     text(rt, bytes);
-    let mut i = 0;
-    while i < words.len() {
-        word(rt, b" ", at(words, i));
-        i += 1;
+    for w in words {
+        word(rt, b" ", *w);
     }
 }
 

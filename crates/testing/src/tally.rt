@@ -5,23 +5,30 @@ pub fn more(n: u64, b: bool) -> u64 {
 }
 
 // The answers compared, and how many of them differ.
-#[derive(Clone, Copy)]
+#[derive(Clone, Copy, PartialEq, Eq)]
 pub struct Tally {
     pub compared: u64,
     pub differ: u64,
 }
 
-pub fn none() -> Tally {
-    Tally {
-        compared: 0,
-        differ: 0,
+impl Tally {
+    pub fn none() -> Tally {
+        Tally {
+            compared: 0,
+            differ: 0,
+        }
     }
-}
 
-pub fn counted(tally: Tally, same: bool) -> Tally {
-    Tally {
-        compared: more(tally.compared, true),
-        differ: more(tally.differ, !same),
+    // One comparison more.
+    pub fn count(&mut self, same: bool) {
+        self.compared = more(self.compared, true);
+        self.differ = more(self.differ, !same);
+    }
+
+    // The comparisons of another tally more.
+    pub fn add(&mut self, others: Tally) {
+        self.compared = std::num::wrapping_add_u64(self.compared, others.compared);
+        self.differ = std::num::wrapping_add_u64(self.differ, others.differ);
     }
 }
 
@@ -34,18 +41,15 @@ pub struct Numbers {
 
 pub fn no_numbers() -> Numbers {
     Numbers {
-        tally: none(),
+        tally: Tally::none(),
         by: [0; 12],
     }
 }
 
 pub fn noted(all: Numbers, number: u32, same: bool) -> Numbers {
-    let tally = all.tally;
-    let mut by = all.by;
+    let mut all = all;
+    all.tally.count(same);
     let i = (number % 12) as usize;
-    by[i] = more(by[i], true);
-    Numbers {
-        tally: counted(tally, same),
-        by,
-    }
+    all.by[i] = more(all.by[i], true);
+    all
 }

@@ -1,3 +1,3 @@
 pub mod Putting
 pub mod Joined
-pub mod Compared
+pub mod Tables

@@ -1,16 +1,17 @@
 -- Digits and names put into lent bytes.
-use mathlib.Core.Path.{◌≡◌, refl, sym, ap, ◌∙◌, subst}
+use mathlib.Core.Path.{◌≡◌, refl, sym, ap, ◌∙◌}
 use mathlib.Core.List.{List, [], ◌∷◌, ◌++◌}
-use Prim.Native.Nat.{ℕ, zero, suc, ◌+◌, ◌-◌, ◌*◌, ◌/◌, ◌%◌, ◌≤◌, ◌<◌}
+use Prim.Native.Nat.{ℕ, zero, suc, ◌+◌, ◌-◌, ◌/◌, ◌%◌, ◌≤◌, ◌<◌}
 use native.Mathlib.Nat.{mod-lt}
 use native.Mathlib.Omega.{arith}
-use lib.ListN.{length, take, drop, get_or, set, length-append, drop_of_length-le}
-use lib.Seq.{sets, set_comm}
-use borrow.Author.Tests.{lt-ltb, le-ltb, eq-eqb, ne_eqb}
+use lib.ListN.{length, set, length-append}
+use lib.Seq.{sets, set_comm, take-length}
+use borrow.Rule.Slice.PartMut.{put_mid}
+use Rattle.std.proofs.lemmas.Slice.{put_mid-paste}
+use Rattle.std.proofs.lemmas.List.Edits.{sets-eq}
+use borrow.Author.Tests.{lt-ltb, le-ltb}
 use Rattle.words.proofs.Copies.{sets-append}
-use Rattle.words.proofs.Lists.{drop-next}
-use Rattle.text.proofs.Joined.{cell_length}
-use Rattle.text.specs.Text.{Puts, names, trimmed, cell_of, name_of, glyph, digits, digits_in}
+use Rattle.text.specs.Text.{glyph, digits, digits_in}
 
 -- ---- how many digits
 
@@ -29,9 +30,9 @@ module _ (n i rest whole : ℕ) (e : i + digits_in (20 - i) rest ≡ whole) (h :
   pub count_goes_on : 10 ≤ rest → i + 1 + digits_in (20 - (i + 1)) (rest / 10) ≡ whole
   count_goes_on l = more_of (20 - (i + 1)) (omega arith) l
 
-pub count_full : (i rest whole : ℕ) → i + digits_in (20 - i) rest ≡ whole → 20 ≤ i → i ≡ whole
+pub count_full : (i rest whole : ℕ) → i + digits_in (20 - i) rest ≡ whole → 20 ≤ i → i ≤ 20 → 20 ≡ whole
 unfolding digits_in
-count_full i rest whole e h =
+count_full i rest whole e h l =
     let p : 20 - i ≡ 0 = omega arith in let q = rw p at e in omega arith
 
 -- ---- digits
@@ -76,70 +77,10 @@ pub no_digit_left : (base i rest at : ℕ) (out whole : List ℕ) → i ≤ 0 �
 unfolding digits
 no_digit_left base i rest at out whole h e = let q : i ≡ 0 = omega arith in rw q at e
 
--- ---- what stands before the padding
+-- ---- a text, whole
 
-module _ (bytes out whole : List ℕ) (at i n : ℕ) (h : i < length bytes)
-    (e : sets out (at + i) (trimmed (drop i bytes)) ≡ whole) (l : at + i + length (trimmed (drop i bytes)) ≡ n) where
-  head_is : drop i bytes ≡ get_or bytes i 0 ∷ drop (i + 1) bytes
-  head_is = drop-next bytes i h
-
-  pub padding_after : get_or bytes i 0 ≡ 46 → at + i ≡ n
-  unfolding trimmed
-  padding_after s = let q = rw (head_is, eq-eqb (get_or bytes i 0) 46 s) at l in omega arith
-
-  pub padding_text : get_or bytes i 0 ≡ 46 → out ≡ whole
-  unfolding trimmed
-  padding_text s = rw (head_is, eq-eqb (get_or bytes i 0) 46 s) at e
-
-  pub byte_text : (get_or bytes i 0 ≡ 46 → ⊥)
-      → sets (set out (at + i) (get_or bytes i 0)) (at + (i + 1)) (trimmed (drop (i + 1) bytes)) ≡ whole
-  unfolding trimmed
-  byte_text s =
-      let p = rw (head_is, ne_eqb (get_or bytes i 0) 46 s) at e in
-      let z : at + (i + 1) ≡ suc (at + i) = omega arith in rw z p
-
-  pub byte_after : (get_or bytes i 0 ≡ 46 → ⊥) → at + (i + 1) + length (trimmed (drop (i + 1) bytes)) ≡ n
-  unfolding trimmed
-  byte_after s = let q = rw (head_is, ne_eqb (get_or bytes i 0) 46 s) at l in omega arith
-
-module _ (bytes out whole : List ℕ) (at i n : ℕ) (h : length bytes ≤ i)
-    (e : sets out (at + i) (trimmed (drop i bytes)) ≡ whole) (l : at + i + length (trimmed (drop i bytes)) ≡ n) where
-  pub end_after : at + i ≡ n
-  unfolding trimmed
-  end_after = let q = rw (drop_of_length-le bytes h) at l in omega arith
-
-  pub end_text : out ≡ whole
-  unfolding trimmed
-  end_text = rw (drop_of_length-le bytes h) at e
-
--- ---- names
-
-no_name : (f : ℕ) → 27 < f → name_of f ≡ []
-unfolding name_of cell_of trimmed
-no_name f h =
-    let l : length names ≤ 5 * f = omega arith in
-    let e : drop (5 * f) names ≡ [] = drop_of_length-le names l in rw e refl
-
-pub no_name_after : (f at : ℕ) → 27 < f → at ≡ at + length (name_of f)
-no_name_after f at h = rw (no_name f h) (omega arith)
-
-pub no_name_text : (f at : ℕ) (out : List ℕ) → 27 < f → out ≡ sets out at (name_of f)
-no_name_text f at out h = rw (no_name f h) refl
-
--- ---- a cell
-
-pub cell_puts : (table : List ℕ) (size i at start end : ℕ) (out after : List ℕ) → start ≡ size * i
-    → Puts out at (trimmed (take (start + size - start) (drop start table))) after end
-    → (end ≤ at + size) × Puts out at (cell_of table size i) after end
-unfolding cell_of
-cell_puts table size i at start end out after s p =
-    let q : start + size - start ≡ size = omega arith in
-    let r : Puts out at (trimmed (take size (drop (size * i) table))) after end =
-    subst (λ (l : List ℕ). Puts out at l after end)
-    (ap (λ (m : ℕ). trimmed (take m (drop start table))) q ∙ ap (λ (m : ℕ). trimmed (take size (drop m table))) s) p
-    in
-    (omega (arith, r.ends, cell_length table size i), r)
-
-pub name_puts : (f at end : ℕ) (out after : List ℕ) → Puts out at (cell_of names 5 f) after end → Puts out at (name_of f) after end
-unfolding name_of
-name_puts f at end out after p = p
+pub copied : (text part out : List ℕ) (at k : ℕ) → part ≡ text → k ≡ length text → at + length text ≤ length out
+    → put_mid at k out part ≡ sets out at text
+copied text part out at k e l h =
+    put_mid-paste at k out part text (length text) e (sym l) refl
+    ∙ rw (take-length text) (sym (sets-eq text out at h))

@@ -1,6 +1,7 @@
 -- What the lines of the programs are made of: document 01, "source name, target name or LV, word in eight capital hexadecimal digits ..
 -- number and place in decimal". Text is a list of bytes.
-use Rattle.std.specs.Prelude.{◌≡◌, ℕ, zero, suc, ◌+◌, ◌*◌, ◌/◌, ◌%◌, Bool, true, false, List, [], ◌∷◌, ◌++◌, ltb, eqb, length, take, drop, if◌then◌else◌}
+use Rattle.std.specs.Prelude.{◌≡◌, ℕ, zero, suc, ◌+◌, ◌/◌, ◌%◌, List, [], ◌∷◌, ◌++◌, ltb, length, map, slice_index_or, max, if◌then◌else◌}
+use Rattle.std.specs.Borrow.{Bor}
 use Prim.Native.Char.{code}
 use Prim.Native.String.{String, [] as no_text, ◌∷◌ as ◌then◌}
 use Rattle.std.proofs.lemmas.List.Edits.{sets}
@@ -9,36 +10,33 @@ abbrev pub bytes : String → List ℕ
 bytes no_text = []
 bytes (c then s) = code c ∷ bytes s
 
--- whether two texts are the same bytes
-unfoldable pub same : List ℕ → List ℕ → Bool
-same [] [] = true
-same [] (y ∷ ys) = false
-same (x ∷ xs) [] = false
-same (x ∷ xs) (y ∷ ys) = if eqb x y then same xs ys else false
-
 -- a text put into lent bytes at a position, and the position after it
 pub record Puts (out : List ℕ) (at : ℕ) (text : List ℕ) (after : List ℕ) (end : ℕ) : Type 0 where
   pub ends : end ≡ at + length text
   pub put : after ≡ sets out at text
 
--- ---- tables of names and spellings: cells of one size, padded by full stops
+-- ---- tables of texts
 
--- what stands before the first full stop
-unfoldable pub trimmed : List ℕ → List ℕ
-trimmed [] = []
-trimmed (c ∷ cs) = if eqb c 46 then [] else c ∷ trimmed cs
+-- the texts that a table of strings holds
+abbrev pub texts : List (Bor (List ℕ)) → List (List ℕ)
+texts table = map (λ (t : Bor (List ℕ)). t.now) table
 
--- the cell of a table at an index, by the size of its cells
-unfoldable pub cell_of : List ℕ → ℕ → ℕ → List ℕ
-cell_of table size i = trimmed (take size (drop (size * i) table))
+-- the text at an index; past the last there is none
+abbrev pub entry : List (List ℕ) → ℕ → List ℕ
+entry table index = slice_index_or table index []
 
--- LV for 0, from scratch, and the functions 1 to 27, five characters each
-abbrev pub names : List ℕ
+-- the length of the longest
+abbrev pub longest : List (List ℕ) → ℕ
+longest [] = 0
+longest (t ∷ ts) = max (length t) (longest ts)
+
+-- LV for 0, from scratch, and the functions 1 to 27
+abbrev pub names : List (List ℕ)
 names =
-    bytes "LV...ADD..SUB..RSUB.INC..DEC..ZERO.ONE..AND..NAND.OR...NOR..XOR..XNOR.LID..RID..LNOT.RNOT.LINHIRINHILIMPLRIMPLEQ...NEQ..GT...LT...GEQ..LEQ.."
+    map bytes ("LV" ∷ "ADD" ∷ "SUB" ∷ "RSUB" ∷ "INC" ∷ "DEC" ∷ "ZERO" ∷ "ONE" ∷ "AND" ∷ "NAND" ∷ "OR" ∷ "NOR" ∷ "XOR" ∷ "XNOR" ∷ "LID" ∷ "RID" ∷ "LNOT" ∷ "RNOT" ∷ "LINHI" ∷ "RINHI" ∷ "LIMPL" ∷ "RIMPL" ∷ "EQ" ∷ "NEQ" ∷ "GT" ∷ "LT" ∷ "GEQ" ∷ "LEQ" ∷ [])
 
 unfoldable pub name_of : ℕ → List ℕ
-name_of f = cell_of names 5 f
+name_of f = entry names f
 
 -- ---- numbers
 

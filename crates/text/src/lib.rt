@@ -9,75 +9,38 @@ pub fn put(bytes: &[u8], out: &mut [u8], at: usize) -> usize
     requires { at + length bytes.now ≤ length out.old }
     ensures text { T.Puts out.old at bytes.now out.new result }
 {
-    let mut i = 0;
-    while i < bytes.len() {
-        out[at + i] = bytes[i];
-        i += 1;
-    }
-    at + i
+    let end = at + bytes.len();
+    out[at..end].copy_from_slice(bytes);
+    end
 }
 
-// Whether two texts are the same bytes.
-pub fn same(a: &[u8], b: &[u8]) -> bool
-    ensures { result ≡ T.same a.now b.now }
+// Puts the text of a table at an index; past the last there is none.
+pub fn put_entry(table: &[&str], index: usize, out: &mut [u8], at: usize) -> usize
+    requires { at + T.longest (T.texts table.now) ≤ length out.old }
+    ensures short { result ≤ at + T.longest (T.texts table.now) }
+    ensures text { T.Puts out.old at (T.entry (T.texts table.now) index) out.new result }
 {
-    if a.len() != b.len() {
-        return false;
+    if table.len() <= index {
+        return at;
     }
-    let mut i = 0;
-    while i < a.len() {
-        if a[i] != b[i] {
-            return false;
-        }
-        i += 1;
-    }
-    true
+    put(table[index].as_bytes(), out, at)
 }
 
-// What a table's cells are padded with: some spellings have spaces.
-const PADDING: u8 = b'.';
-
-// Puts what stands before the padding.
-fn put_trimmed(bytes: &[u8], out: &mut [u8], at: usize) -> usize
-    requires { at + length bytes.now ≤ length out.old }
-    ensures text { T.Puts out.old at (T.trimmed bytes.now) out.new result }
-{
-    let mut i = 0;
-    while i < bytes.len() {
-        let byte = bytes[i];
-        if byte == PADDING {
-            return at + i;
-        }
-        out[at + i] = byte;
-        i += 1;
-    }
-    at + i
-}
-
-// Puts a cell of a table, by the size of its cells.
-pub fn put_cell(table: &[u8], size: usize, index: usize, out: &mut [u8], at: usize) -> usize
-    requires { (size * index + size ≤ length table.now) × (at + size ≤ length out.old) }
-    ensures short { result ≤ at + size }
-    ensures text { T.Puts out.old at (T.cell_of table.now size index) out.new result }
-{
-    let start = size * index;
-    put_trimmed(&table[start..start + size], out, at)
-}
-
-// The names of the functions, five bytes each; LV stands for 0.
-const NAMES: [u8; 140] =
-    *b"LV...ADD..SUB..RSUB.INC..DEC..ZERO.ONE..AND..NAND.OR...NOR..XOR..XNOR.LID..RID..LNOT.RNOT.LINHIRINHILIMPLRIMPLEQ...NEQ..GT...LT...GEQ..LEQ..";
+// The names of the functions from 1 on; LV stands for 0.
+const NAMES: [&str; 28] = [
+    "LV", "ADD", "SUB", "RSUB", "INC", "DEC", "ZERO", "ONE", "AND", "NAND", "OR", "NOR", "XOR",
+    "XNOR", "LID", "RID", "LNOT", "RNOT", "LINHI", "RINHI", "LIMPL", "RIMPL", "EQ", "NEQ", "GT",
+    "LT", "GEQ", "LEQ",
+];
 
 // Puts the name of a function; there is none for a number above the last.
+#[tactic(auto, unfolding(crate::specs::Text::name_of))]
 pub fn put_name(function: u32, out: &mut [u8], at: usize) -> usize
     requires { at + 5 ≤ length out.old }
     ensures short { result ≤ at + 5 }
     ensures text { T.Puts out.old at (T.name_of function) out.new result }
 {
-    if alu::FUNCTIONS < function {
-        return at;
-    }
-    put_cell(&NAMES, 5, function as usize, out, at)
+    put_entry(&NAMES, function as usize, out, at)
 }
 
 fn glyph(digit: u64) -> u8
@@ -97,9 +60,7 @@ pub fn put_digits(n: u64, base: u64, k: usize, out: &mut [u8], at: usize) -> usi
     ensures text { T.Puts out.old at (T.digits base k n) out.new result }
 {
     let mut rest = n;
-    let mut i = k;
-    while 0 < i {
-        i -= 1;
+    for i in (0..k).rev() {
         out[at + i] = glyph(rest % base);
         rest = rest / base;
     }
@@ -111,15 +72,13 @@ fn digit_count(n: u64) -> usize
     ensures { (result ≡ T.digits_in 20 n) × (result ≤ 20) }
 {
     let mut rest = n;
-    let mut i = 0;
-    while i < 20 {
+    for i in 0..20 {
         if rest < 10 {
             return i + 1;
         }
         rest = rest / 10;
-        i += 1;
     }
-    i
+    20
 }
 
 // Puts a number in decimal.

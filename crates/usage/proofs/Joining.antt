@@ -2,14 +2,12 @@
 use mathlib.Core.Path.{◌≡◌, refl, sym, ap, ap₂, ◌∙◌}
 use mathlib.Core.Bool.{Bool, true, false}
 use mathlib.Core.List.{List, [], ◌∷◌, ◌++◌}
-use Prim.Native.Nat.{ℕ, ◌+◌, ◌*◌, ◌/◌, ◌%◌, ◌≤◌, ◌<◌, max}
+use Prim.Native.Nat.{ℕ, ◌+◌, ◌*◌, ◌/◌, ◌%◌, max}
 use native.Mathlib.Omega.{arith}
 use lib.Arith.{bin_ind}
 use lib.Bits.{bit_or, or_step, or_shr, or_comm, or_self, or_zero_r}
-use lib.ListN.{length, drop, get_or, drop_of_length-le}
-use Rattle.std.specs.Prelude.{if◌then◌else◌}
+use Rattle.std.specs.Prelude.{fold, if◌then◌else◌}
 use Rattle.words.specs.Field.{content_of}
-use Rattle.words.proofs.Lists.{drop-next}
 use Rattle.recipe.specs.Fields.{from_scratch, vector_of, fields_of}
 use Rattle.recipe.proofs.Content.{same_from_scratch, same_vector, same_fields}
 use Rattle.usage.specs.Sets.{target_usage, scratch_usage, usage_of, usage}
@@ -84,14 +82,10 @@ module _ (w r : ℕ) (b : Bool) (e : b ≡ from_scratch w) where
   unfolding usage_of
   target_used z p = rw (sym e ∙ z) p
 
-module _ (ws : List ℕ) (i s u : ℕ) (e : bit_or s (usage (drop i ws)) ≡ u) where
-  pub next_joined : (x : ℕ) → i < length ws → x ≡ usage_of (get_or ws i 0) → bit_or (bit_or s x) (usage (drop (i + 1) ws)) ≡ u
-  unfolding usage
-  next_joined x h p =
-      or_assoc s x (usage (drop (i + 1) ws))
-      ∙ ap (λ (y : ℕ). bit_or s (bit_or y (usage (drop (i + 1) ws)))) p
-      ∙ (rw (drop-next ws i h) at e)
+folded : (ws : List ℕ) (s : ℕ) → fold (λ u w. bit_or u (usage_of w)) s ws ≡ bit_or s (usage ws)
+unfolding usage
+folded [] s = sym (or_zero_r s)
+folded (w ∷ ws) s = folded ws (bit_or s (usage_of w)) ∙ or_assoc s (usage_of w) (usage ws)
 
-  pub all_joined : length ws ≤ i → s ≡ u
-  unfolding usage
-  all_joined h = sym (or_zero_r s) ∙ (rw (drop_of_length-le ws h) at e)
+pub all_joined : (ws : List ℕ) → fold (λ u w. bit_or u (usage_of w)) 0 ws ≡ usage ws
+all_joined ws = folded ws 0

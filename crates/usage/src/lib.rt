@@ -48,11 +48,5 @@ pub fn usage_of(word: u32) -> u64
 pub fn joined(words: &[u32]) -> u64
     ensures { result ≡ S.usage words.now }
 {
-    let mut usage: u64 = 0;
-    let mut i = 0;
-    while i < words.len() {
-        usage = usage | usage_of(words[i]);
-        i += 1;
-    }
-    usage
+    words.iter().fold(0, |usage, word| usage | usage_of(*word))
 }

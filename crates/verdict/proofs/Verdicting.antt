@@ -1,11 +1,11 @@
 -- From the search's outcome to the verdict.
 use mathlib.Core.Path.{◌≡◌, refl, sym, ap, ap₂, ◌∙◌, subst}
 use Prim.Native.Nat.{ℕ, ◌^◌, ◌<◌}
-use native.Mathlib.Omega.{arith}
 use mathlib.Core.Bool.{Bool, true, false, not, beq}
 use lib.Dec.{eqb}
 use borrow.Author.Tests.{eq-eqb, ne_eqb, eqb-true, not-true, not-false}
-use Rattle.std.specs.Prelude.{if◌then◌else◌}
+use borrow.Author.Rules.{rules}
+use Rattle.std.specs.Prelude.{Option, Some, None, IsSome, if◌then◌else◌, Ok, Err}
 use Rattle.words.specs.Field.{kind_of}
 use Rattle.words.specs.Kinds.{is_recipe}
 use Rattle.words.specs.Paper.{refusal}
@@ -20,56 +20,30 @@ use Rattle.binding.specs.Right.{Right, is_right, claim_of}
 use Rattle.binding.specs.declared.Claim.{Claim}
 use Rattle.binding.proofs.Tests.{right_test}
 use Rattle.search.specs.Search.{Found}
-use Rattle.verdict.specs.Verdicts.{lowest_port, no_port, Says, judge_of, Judged}
-use Rattle.search.specs.declared.Outcome.{Outcome}
-use Rattle.search.specs.declared.Outcome.TheVariants.{Holds, Fails}
+use Rattle.verdict.specs.Verdicts.{lowest_port, Says, judge_of, Judged}
+use Rattle.search.specs.declared.Counterexample.{Counterexample}
 use Rattle.verdict.specs.declared.Verdict.{Verdict}
 use Rattle.verdict.specs.declared.Verdict.TheVariants.{Right as IsRight, Wrong}
-use Rattle.verdict.specs.declared.Judgement.TheVariants.{Decided, Refused}
 
 -- ---- the lowest port
 
 module _ (p q : Ports) where
-  pub main_differs : (p.o0 ≡ q.o0 → ⊥) → 0 ≡ lowest_port p q
-  unfolding lowest_port
-  main_differs h = rw (ne_eqb p.o0 q.o0 h) refl
-
-  module _ (e : p.o0 ≡ q.o0) (a : Bool) (ea : a ≡ beq p.ocout q.ocout) where
-    pub carry_differs : not a ≡ true → 1 ≡ lowest_port p q
-    unfolding lowest_port
-    carry_differs h = rw (eq-eqb p.o0 q.o0 e) (rw (sym ea ∙ not-true a h) refl)
-
-    module _ (ha : not a ≡ false) (b : Bool) (eb : b ≡ beq p.ovf q.ovf) where
-      pub overflow_differs : not b ≡ true → 2 ≡ lowest_port p q
-      unfolding lowest_port
-      overflow_differs h = rw (eq-eqb p.o0 q.o0 e) (rw (sym ea ∙ not-false a ha) (rw (sym eb ∙ not-true b h) refl))
-
-      module _ (hb : not b ≡ false) (c : Bool) (ec : c ≡ beq p.o1 q.o1) where
-        by_comparison : lowest_port p q ≡ (if not c then 3 else no_port)
-        unfolding lowest_port
-        by_comparison =
-            rw (eq-eqb p.o0 q.o0 e)
-            (rw (sym ea ∙ not-false a ha) (rw (sym eb ∙ not-false b hb) (ap (λ (z : Bool). if not z then 3 else no_port) (sym ec))))
-
-        pub comparison_differs : not c ≡ true → 3 ≡ lowest_port p q
-        comparison_differs h = sym (by_comparison ∙ rw (not-true c h) refl)
-
-        pub none_differs : not c ≡ false → no_port ≡ lowest_port p q
-        none_differs h = sym (by_comparison ∙ rw (not-false c h) refl)
-
   -- ports that are not the same differ somewhere
-  some-differs : (p ≡ q → ⊥) → lowest_port p q < no_port
+  some-differs : (p ≡ q → ⊥) → IsSome (lowest_port p q)
   unfolding lowest_port
   some-differs ne =
       go (eqb p.o0 q.o0) refl (beq p.ocout q.ocout) refl (beq p.ovf q.ovf) refl (beq p.o1 q.o1) refl
     where
+      some : ℕ → Option ℕ
+      some k = Some k
+
       go : (a : Bool) → eqb p.o0 q.o0 ≡ a → (b : Bool) → beq p.ocout q.ocout ≡ b
           → (c : Bool) → beq p.ovf q.ovf ≡ c → (d : Bool) → beq p.o1 q.o1 ≡ d
-          → (if not a then 0 else if not b then 1 else if not c then 2 else if not d then 3 else no_port) < no_port
-      go false ea b eb c ec d ed = omega arith
-      go true ea false eb c ec d ed = omega arith
-      go true ea true eb false ec d ed = omega arith
-      go true ea true eb true ec false ed = omega arith
+          → IsSome (if not a then some 0 else if not b then some 1 else if not c then some 2 else if not d then some 3 else None)
+      go false ea b eb c ec d ed = search rules
+      go true ea false eb c ec d ed = search rules
+      go true ea true eb false ec d ed = search rules
+      go true ea true eb true ec false ed = search rules
       go true ea true eb true ec true ed =
           absurd (ne (λ i. record {
             o0 = eqb-true p.o0 q.o0 ea i;
@@ -78,7 +52,7 @@ module _ (p q : Ports) where
             o1 = beq-true p.o1 q.o1 ed i;
           }))
 
-  same_ports_lem : p ≡ q → lowest_port p q ≡ no_port
+  same_ports_lem : p ≡ q → lowest_port p q ≡ None
   unfolding lowest_port
   same_ports_lem e =
       rw (eq-eqb p.o0 q.o0 (ap (λ (z : Ports). z.o0) e))
@@ -86,33 +60,35 @@ module _ (p q : Ports) where
       (rw (beq-refl p.ovf q.ovf (ap (λ (z : Ports). z.ovf) e))
       (rw (beq-refl p.o1 q.o1 (ap (λ (z : Ports). z.o1) e)) refl)))
 
--- ---- the verdict, from the outcome of the search
+-- ---- the verdict, from what the search found
 
-module _ (c : Claim) (n : ℕ) (o : Outcome) (found : Found c.source c.recipe n o) where
-  found_as : (k : Outcome) → o ≡ k → Found c.source c.recipe n k
-  found_as k e = subst (λ (x : Outcome). Found c.source c.recipe n x) e found
+module _ (c : Claim) (n : ℕ) (o : Option Counterexample) (found : Found c.source c.recipe n o) where
+  found_as : (k : Option Counterexample) → o ≡ k → Found c.source c.recipe n k
+  found_as k e = subst (λ (x : Option Counterexample). Found c.source c.recipe n x) e found
 
-  pub right_case : o ≡ Holds → Says c n IsRight
-  right_case e = found_as Holds e
+  pub right_case : o ≡ None → Says c n IsRight
+  right_case e = found_as None e
 
-  module _ (l r : ℕ) (k : Bool) (e : o ≡ Fails l r k) where
-    pub operands : Width n → Operands n l r
+  module _ (x : Counterexample) (e : o ≡ Some x) where
+    pub operands : Width n → Operands n x.left x.right
     operands g =
-        let f = found_as (Fails l r k) e in
+        let f = found_as (Some x) e in
         record { least = g.least; most = g.most; left_fits = f.0; right_fits = f.1 }
 
-    pub wrong_case : (p q : Ports) (port : ℕ) → p ≡ shows c.recipe n l r k → (q ≡ side_shows c.source n l r k) × (q.o0 < 2 ^ n)
-        → port ≡ lowest_port p q → Says c n (Wrong (record { function = c.function; port = port; left = l; right = r; carry = k }))
-    wrong_case p q port ep eq eport =
-        let f = found_as (Fails l r k) e in
-        let ed = eport ∙ ap₂ lowest_port ep eq.0 in
-        record {
-          named = refl;
-          left_fits = f.0;
-          right_fits = f.1;
-          lowest = ed;
-          differs = rw ed (some-differs _ _ f.2);
-        }
+    module _ (p q : Ports) (port : Option ℕ) (ep : p ≡ shows c.recipe n x.left x.right x.carry)
+        (eq : (q ≡ side_shows c.source n x.left x.right x.carry) × (q.o0 < 2 ^ n)) (eport : port ≡ lowest_port p q) where
+      pub is_some_port : IsSome port
+      is_some_port = subst IsSome (sym (eport ∙ ap₂ lowest_port ep eq.0)) (some-differs _ _ (found_as (Some x) e).2)
+
+      pub wrong_case : (k : ℕ) → port ≡ Some k → Says c n (Wrong (record { function = c.function; port = k; left = x.left; right = x.right; carry = x.carry }))
+      wrong_case k h =
+          let f = found_as (Some x) e in
+          record {
+            named = refl;
+            left_fits = f.0;
+            right_fits = f.1;
+            lowest = sym (ap₂ lowest_port ep eq.0) ∙ sym eport ∙ h;
+          }
 
 -- ---- what a verdict tells of rightness
 
@@ -124,8 +100,7 @@ module _ (c : Claim) (n : ℕ) where
       same_ports_lem (shows c.recipe n v.left v.right v.carry) (side_shows c.source n v.left v.right v.carry)
       (right v.left v.right v.carry d.left_fits d.right_fits) in
       let z = d.lowest in
-      let y = d.differs in
-      omega arith
+      cc
 
   module _ (v : Verdict) (says : Says c n v) where
     pub right_says : v ≡ IsRight → true ≡ is_right c n
@@ -142,24 +117,24 @@ module _ (w n k : ℕ) (b : Bool) (ek : k ≡ kind_of w) (eb : b ≡ is_recipe k
   kind_known : b ≡ is_recipe (kind_of w)
   kind_known = eb ∙ ap is_recipe ek
 
-  pub no_recipe : not b ≡ true → Judged w n (Refused (refusal 2 0))
+  pub no_recipe : not b ≡ true → Judged w n (Err (refusal 2 0))
   unfolding judge_of
   no_recipe h = rw (sym kind_known ∙ not-true b h) refl
 
   module _ (hb : not b ≡ false) (f : ℕ) (ef : f ≡ recipe_fault w) where
-    pub bad_recipe : (f ≡ 0 → ⊥) → Judged w n (Refused (refusal f 0))
+    pub bad_recipe : (f ≡ 0 → ⊥) → Judged w n (Err (refusal f 0))
     unfolding judge_of
     bad_recipe h =
         rw (sym kind_known ∙ not-false b hb)
         (rw (ne_eqb (recipe_fault w) 0 (λ z. h (ef ∙ z))) (ap (λ (x : ℕ). refusal x 0) ef))
 
     module _ (hf : f ≡ 0) (c : Bool) (ec : c ≡ is_width n) where
-      pub bad_width : not c ≡ true → Judged w n (Refused (refusal 3 1))
+      pub bad_width : not c ≡ true → Judged w n (Err (refusal 3 1))
       unfolding judge_of
       bad_width h =
           rw (sym kind_known ∙ not-false b hb) (rw (eq-eqb (recipe_fault w) 0 (sym ef ∙ hf)) (rw (sym ec ∙ not-true c h) refl))
 
-      pub decided : not c ≡ false → (m : Claim) (v : Verdict) → m ≡ claim_of w → Says m n v → Judged w n (Decided v)
+      pub decided : not c ≡ false → (m : Claim) (v : Verdict) → m ≡ claim_of w → Says m n v → Judged w n (Ok v)
       unfolding judge_of
       decided h m v em says =
           rw (sym kind_known ∙ not-false b hb)

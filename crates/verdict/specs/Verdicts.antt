@@ -1,5 +1,5 @@
 -- The verdict on a claim: document 01, "What a binding shows" and refusal 10; and the order in which a recipe handed in is judged.
-use Rattle.std.specs.Prelude.{ℕ, ◌^◌, ◌<◌, ◌≡◌, not, [], ◌∷◌, eqb, if◌then◌else◌}
+use Rattle.std.specs.Prelude.{ℕ, ◌^◌, ◌<◌, ◌≡◌, not, [], ◌∷◌, eqb, Option, Some, None, if◌then◌else◌, Result, Ok, Err}
 use Rattle.std.specs.Bool.{beq}
 use Rattle.words.specs.Field.{kind_of}
 use Rattle.words.specs.Kinds.{is_recipe}
@@ -15,30 +15,23 @@ use Rattle.binding.specs.Right.{Right, claim_of}
 use Rattle.binding.specs.declared.Claim.{Claim}
 use Rattle.verdict.specs.declared.Verdict.{Verdict}
 use Rattle.verdict.specs.declared.Verdict.TheVariants.{Right as IsRight, Wrong}
-use Rattle.verdict.specs.declared.Judgement.{Judgement}
-use Rattle.verdict.specs.declared.Judgement.TheVariants.{Decided, Refused}
 
--- no port differs
-abbrev pub no_port : ℕ
-no_port = 4
-
--- "port (0 O0, 1 OCOUT, 2 OVF, 3 O1) ... Of the ports that differ there, the lowest"; `no_port` where none differs
-unfoldable pub lowest_port : Ports → Ports → ℕ
+-- "port (0 O0, 1 OCOUT, 2 OVF, 3 O1) ... Of the ports that differ there, the lowest"
+unfoldable pub lowest_port : Ports → Ports → Option ℕ
 lowest_port p q =
-    if not (eqb p.o0 q.o0) then 0
-    else if not (beq p.ocout q.ocout) then 1
-    else if not (beq p.ovf q.ovf) then 2
-    else if not (beq p.o1 q.o1) then 3
-    else no_port
+    if not (eqb p.o0 q.o0) then Some 0
+    else if not (beq p.ocout q.ocout) then Some 1
+    else if not (beq p.ovf q.ovf) then Some 2
+    else if not (beq p.o1 q.o1) then Some 3
+    else None
 
 -- "every choice is in range, makes a port of the named function's binding differ, and comes with the lowest port that differs there"
 pub record Differs (c : Claim) (n : ℕ) (v : Witness) : Type 0 where
   pub named : v.function ≡ c.function
   pub left_fits : v.left < 2 ^ n
   pub right_fits : v.right < 2 ^ n
-  pub lowest : v.port
-      ≡ lowest_port (shows c.recipe n v.left v.right v.carry) (side_shows c.source n v.left v.right v.carry)
-  pub differs : v.port < no_port
+  pub lowest : lowest_port (shows c.recipe n v.left v.right v.carry) (side_shows c.source n v.left v.right v.carry)
+      ≡ Some v.port
 
 -- What a verdict on a claim at width n says. Of a wrong recipe the operands and the carry are the program's choice.
 abbrev pub Says : Claim → ℕ → Verdict → Type 0
@@ -75,16 +68,16 @@ judge_of w n =
     else if not (is_width n) then Refuses (refusal 3 1)
     else Decides (claim_of w) n
 
-abbrev pub Passes : Sentence → Judgement → Type 0
-Passes (Refuses r) (Refused q) = q ≡ r
-Passes (Refuses r) (Decided v) = ⊥
-Passes (Decides c n) (Refused q) = ⊥
-Passes (Decides c n) (Decided v) = Says c n v
+abbrev pub Passes : Sentence → Result Verdict Refusal → Type 0
+Passes (Refuses r) (Err q) = q ≡ r
+Passes (Refuses r) (Ok v) = ⊥
+Passes (Decides c n) (Err q) = ⊥
+Passes (Decides c n) (Ok v) = Says c n v
 
-abbrev pub Judged : ℕ → ℕ → Judgement → Type 0
+abbrev pub Judged : ℕ → ℕ → Result Verdict Refusal → Type 0
 Judged w n j = Passes (judge_of w n) j
 
 -- the judgement in document 01's numbers
-abbrev pub judgement_paper : Judgement → Paper
-judgement_paper (Decided v) = verdict_paper v
-judgement_paper (Refused r) = told r
+abbrev pub judgement_paper : Result Verdict Refusal → Paper
+judgement_paper (Ok v) = verdict_paper v
+judgement_paper (Err r) = told r

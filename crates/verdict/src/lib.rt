@@ -8,7 +8,6 @@ ghost use Rattle.verdict.specs.Verdicts as D;
 
 use binding::Claim;
 use bits::Ports;
-use search::Outcome;
 use words::{Refusal, Witness};
 
 // Right, or Wrong with function, port, both operands and carry.
@@ -18,33 +17,24 @@ pub enum Verdict {
     Wrong(Witness),
 }
 
-// The answer to a recipe word handed in by anybody.
-#[derive(Clone, Copy)]
-pub enum Judgement {
-    Decided(Verdict),
-    Refused(Refusal),
-}
-
-// No port differs.
-const NO_PORT: u32 = 4;
-
-// The lowest port at which two differ, or NO_PORT.
-fn lowest_port(p: Ports, q: Ports) -> u32
+// The lowest port at which two differ.
+#[tactic(auto, unfolding(crate::specs::Verdicts::lowest_port))]
+fn lowest_port(p: Ports, q: Ports) -> Option<u32>
     ensures { result ≡ D.lowest_port p q }
 {
     if p.o0 != q.o0 {
-        return 0;
+        return Some(0);
     }
-    if !automaton::same_bit(p.ocout, q.ocout) {
-        return 1;
+    if p.ocout != q.ocout {
+        return Some(1);
     }
-    if !automaton::same_bit(p.ovf, q.ovf) {
-        return 2;
+    if p.ovf != q.ovf {
+        return Some(2);
     }
-    if !automaton::same_bit(p.o1, q.o1) {
-        return 3;
+    if p.o1 != q.o1 {
+        return Some(3);
     }
-    NO_PORT
+    None
 }
 
 // The verdict on a claim. Of a wrong one the operands are those that the search meets first.
@@ -54,22 +44,21 @@ pub fn verdict_on(claim: Claim, n: u32) -> Verdict
 {
     let source = claim.source;
     let recipe = claim.recipe;
-    let outcome = search::search(source, recipe, n);
-    match outcome {
-        Outcome::Holds => Verdict::Right,
-        Outcome::Fails(left, right, carry) => {
-            let p = binding::shows(recipe, n, left, right, carry);
-            let q = binding::side_shows(source, n, left, right, carry);
-            let port = lowest_port(p, q);
-            Verdict::Wrong(Witness {
-                function: claim.function,
-                port,
-                left,
-                right,
-                carry,
-            })
-        }
-    }
+    let Some(found) = search::search(source, recipe, n) else {
+        return Verdict::Right;
+    };
+    let left = found.left;
+    let right = found.right;
+    let carry = found.carry;
+    let p = binding::shows(recipe, n, left, right, carry);
+    let q = binding::side_shows(source, n, left, right, carry);
+    Verdict::Wrong(Witness {
+        function: claim.function,
+        port: lowest_port(p, q).unwrap(),
+        left,
+        right,
+        carry,
+    })
 }
 
 // Whether a claim holds.
@@ -77,36 +66,31 @@ pub fn is_right(claim: Claim, n: u32) -> bool
     requires { Q.Width n }
     ensures { result ≡ R.is_right claim n }
 {
-    let verdict = verdict_on(claim, n);
-    if let Verdict::Right = verdict {
-        true
-    } else {
-        false
-    }
+    matches!(verdict_on(claim, n), Verdict::Right)
 }
 
-// Judges a recipe word and a width: 2 for a kind that is no recipe's; then 3, 5 and 6 of the word, place 0; then 3 for the width, place 1.
-pub fn judge(word: u32, width: u32) -> Judgement
+// Judges a recipe word and a width handed in by anybody: 2 for a kind that is no recipe's; then 3, 5 and 6 of the word, place 0; then 3 for the width, place 1.
+pub fn judge(word: u32, width: u32) -> Result<Verdict, Refusal>
     ensures { D.Judged word width result }
 {
     if !words::is_recipe(words::kind_of(word)) {
-        return Judgement::Refused(Refusal {
+        return Err(Refusal {
             number: 2,
             place: 0,
         });
     }
     let fault = layout::recipe_fault(word);
     if fault != words::NO_REFUSAL {
-        return Judgement::Refused(Refusal {
+        return Err(Refusal {
             number: fault,
             place: 0,
         });
     }
     if !alu::is_width(width) {
-        return Judgement::Refused(Refusal {
+        return Err(Refusal {
             number: 3,
             place: 1,
         });
     }
-    Judgement::Decided(verdict_on(binding::claim_of(word), width))
+    Ok(verdict_on(binding::claim_of(word), width))
 }

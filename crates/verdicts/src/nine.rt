@@ -1,35 +1,21 @@
 // Recipes judged at nine widths: the small ones that can be tried whole, and those about the halves and the ends of machine words.
-use crate::trial::{counted, tried};
-use reference::places::number;
+use crate::trial::{count, tried};
 use std::num::wrapping_add_u64;
 use testing::say;
 use testing::tally::{Tally, more};
 
 pub const WIDTHS: [u32; 9] = [1, 2, 3, 4, 8, 31, 32, 63, 64];
 
-// Counts: the recipes, the answers compared and those that differ, how many recipes are right at all of the widths, at width 1 only and
-// at none, and how many at each of the nine.
-pub const RECIPES: usize = 0;
-
-const COMPARED: usize = 1;
-
-const DIFFER: usize = 2;
-
-const ALWAYS: usize = 3;
-
-const NARROW: usize = 4;
-
-const NEVER: usize = 5;
-
-const BY_WIDTH: usize = 6;
-
+// How many recipes there are, what was compared, how many recipes are right at all of the widths, at width 1 only and at none, and how
+// many at each of the nine.
 #[derive(Clone, Copy)]
 pub struct Recipes {
-    pub counts: [u64; 15],
-}
-
-pub fn none() -> Recipes {
-    Recipes { counts: [0; 15] }
+    recipes: u64,
+    tally: Tally,
+    always: u64,
+    narrow: u64,
+    never: u64,
+    by_width: [u64; 9],
 }
 
 // A recipe's word: a rule's at odd widths, a binding's at even ones.
@@ -41,83 +27,77 @@ pub fn word_at(content: u32, n: u32) -> u32 {
     }
 }
 
-// The widths at which a recipe is right, by bits, the lowest the first of the nine; and what was compared.
-#[derive(Clone, Copy)]
-struct Judged {
-    right: u32,
-    tally: Tally,
-}
-
-// A recipe at each width, given by the low 28 bits of its word. The first difference of the tally is written out.
-fn judged_at_each(rt: &HostRuntime, tally: Tally, content: u32) -> Judged {
-    let mut tally = tally;
-    let mut right = 0;
-    let mut k: u32 = 0;
-    while k < 9 {
-        let n = WIDTHS[k as usize];
-        let word = word_at(content, n);
-        let trial = tried(word, n);
-        let next = counted(rt, tally, word, n, trial.holds);
-        tally = next;
-        right = right | (number(trial.right) << k);
-        k += 1;
+impl Recipes {
+    pub fn none() -> Recipes {
+        Recipes {
+            recipes: 0,
+            tally: Tally::none(),
+            always: 0,
+            narrow: 0,
+            never: 0,
+            by_width: [0; 9],
+        }
     }
-    Judged { right, tally }
-}
 
-fn with_widths(counts: [u64; 15], right: u32) -> [u64; 15] {
-    let mut counts = counts;
-    let mut k = 0;
-    let mut rest = right;
-    while k < 9 {
-        counts[k + BY_WIDTH] = more(counts[k + BY_WIDTH], rest % 2 == 1);
-        rest = rest / 2;
-        k += 1;
+    pub fn is_none(&self) -> bool {
+        self.recipes == 0
     }
-    counts
-}
 
-// One recipe more.
-pub fn with_recipe(rt: &HostRuntime, all: Recipes, content: u32) -> Recipes {
-    let counts = all.counts;
-    let judged = judged_at_each(
-        rt,
-        Tally {
-            compared: counts[COMPARED],
-            differ: counts[DIFFER],
-        },
-        content,
-    );
-    let tally = judged.tally;
-    let mut counts = with_widths(counts, judged.right);
-    counts[RECIPES] = more(counts[RECIPES], true);
-    counts[COMPARED] = tally.compared;
-    counts[DIFFER] = tally.differ;
-    counts[ALWAYS] = more(counts[ALWAYS], judged.right == 0x1FF);
-    counts[NARROW] = more(counts[NARROW], judged.right == 1);
-    counts[NEVER] = more(counts[NEVER], judged.right == 0);
-    Recipes { counts }
-}
-
-// Two lots of recipes as one.
-pub fn together(all: Recipes, others: Recipes) -> Recipes {
-    let mut counts = all.counts;
-    let added = others.counts;
-    let mut k = 0;
-    while k < 15 {
-        counts[k] = wrapping_add_u64(counts[k], added[k]);
-        k += 1;
+    // A recipe judged at each width, given by the low 28 bits of its word; the widths at which it is right. The first difference of the
+    // tally is written out.
+    fn judge_at_each(&mut self, rt: &HostRuntime, content: u32) -> [bool; 9] {
+        let mut rights = [false; 9];
+        for (right, n) in rights.iter_mut().zip(&WIDTHS) {
+            let word = word_at(content, *n);
+            let trial = tried(word, *n);
+            count(rt, &mut self.tally, word, *n, trial.holds);
+            *right = trial.right;
+        }
+        rights
     }
-    Recipes { counts }
-}
 
-// Ends a line that begins with the recipes' name.
-pub fn report(rt: &HostRuntime, all: Recipes) {
-    let counts = all.counts;
-    say::line(
-        rt,
-        b": # recipes at nine widths, # compared, # differ; right at all #, at width 1 only #, at none #; by width \
-        1: # 2: # 3: # 4: # 8: # 31: # 32: # 63: # 64: #\n",
-        &counts,
-    );
+    // One recipe more.
+    pub fn judge(&mut self, rt: &HostRuntime, content: u32) {
+        let rights = self.judge_at_each(rt, content);
+        let widths = rights.iter().filter(|right| **right).count();
+        self.recipes = more(self.recipes, true);
+        self.always = more(self.always, widths == 9);
+        self.narrow = more(self.narrow, rights[0] & (widths == 1));
+        self.never = more(self.never, widths == 0);
+        for (count, right) in self.by_width.iter_mut().zip(&rights) {
+            *count = more(*count, *right);
+        }
+    }
+
+    // Other recipes more.
+    pub fn add(&mut self, others: Recipes) {
+        self.recipes = wrapping_add_u64(self.recipes, others.recipes);
+        self.tally.add(others.tally);
+        self.always = wrapping_add_u64(self.always, others.always);
+        self.narrow = wrapping_add_u64(self.narrow, others.narrow);
+        self.never = wrapping_add_u64(self.never, others.never);
+        for (count, added) in self.by_width.iter_mut().zip(&others.by_width) {
+            *count = wrapping_add_u64(*count, *added);
+        }
+    }
+
+    // Ends a line that begins with the recipes' name.
+    pub fn report(&self, rt: &HostRuntime) {
+        say::line(
+            rt,
+            b": # recipes at nine widths, # compared, # differ; right at all #, at width 1 only #, at none #; by width",
+            &[
+                self.recipes,
+                self.tally.compared,
+                self.tally.differ,
+                self.always,
+                self.narrow,
+                self.never,
+            ],
+        );
+        for (n, count) in WIDTHS.iter().zip(&self.by_width) {
+            say::line(rt, b" #: #", &[*n as u64, *count]);
+        }
+        say::text(rt, b"\n");
+    }
 }

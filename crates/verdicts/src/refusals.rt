@@ -2,18 +2,20 @@
 ghost use Rattle.std.specs.Prelude.{◌<◌};
 
 use crate::stored::RECIPES;
-use crate::trial::{counted, judged};
-use reference::answer::{Answer, DONE};
+use crate::trial::{count, judged};
+use reference::answer::Refusal;
+use reference::refusal::refusal_of;
 use reference::trial::next;
 use testing::say;
-use testing::tally::{Numbers, more};
+use testing::tally::{Numbers, more, no_numbers};
 
-// By what the reference refuses: 0 for nothing, 1 for the width, or the word's number.
-fn group(refusal: Answer) -> u32 {
-    if refusal.place == 1 {
-        return 1;
+// The index of the count, by what the reference refuses: 0 for nothing, 1 for the width, or the word's number.
+fn group(refusal: Option<Refusal>) -> usize {
+    match refusal {
+        None => 0,
+        Some(refusal) if refusal.place == 1 => 1,
+        Some(refusal) => (refusal.number % 12) as usize,
     }
-    refusal.number
 }
 
 // Whether a word taken apart and packed again is the same word.
@@ -23,14 +25,12 @@ fn packs_back(word: u32) -> bool {
     recipe::pack(kind, fields) == word
 }
 
-// Whether the judge refuses as the reference does. Of each word that is judged, the packing is tried too.
-fn agrees(word: u32, width: u32, refusal: Answer) -> bool {
-    let packed = packs_back(word);
-    let told = judged(word, width);
-    if told.form == DONE {
-        return packed & (refusal.number == 0);
-    }
-    packed & (told.number != 0) & (told.number == refusal.number) & (told.place == refusal.place)
+// Whether the judge refuses as the reference does, which leaves open what is right. Of each word that is judged, the packing is tried too.
+fn agrees(word: u32, width: u32, refusal: Option<Refusal>) -> bool {
+    let told = judged(word, width)
+        .err()
+        .filter(|refusal| refusal.number != 10);
+    packs_back(word) & (told == refusal)
 }
 
 // A word with a value put into the field of `most` ones from bit `low`, cut to it.
@@ -66,22 +66,34 @@ struct Case {
     width: u32,
 }
 
-// The i-th word and width of a lot: every word of kind 5; a random word at four widths; a stored recipe with one field changed, at a width
-// that is mostly 0, 1 or 65, which are judged at once.
-fn case_of(lot: u32, i: u32, random: u64) -> Case {
-    if lot == 0 {
-        return Case {
+// Every word of kind 5; a random word at four widths; a stored recipe with one field changed, at a width that is mostly 0, 1 or 65, which
+// are judged at once.
+#[derive(Clone, Copy, PartialEq, Eq)]
+enum Lot {
+    EveryWord,
+    AtRandom,
+    OneField,
+}
+
+// The i-th word and width of a lot.
+fn case_of(lot: Lot, i: u32, random: u64) -> Case {
+    match lot {
+        Lot::EveryWord => Case {
             word: 0x5000_0000 | i,
             width: 65,
-        };
+        },
+        Lot::AtRandom => {
+            let turn = (i % 4) as usize;
+            Case {
+                word: (random >> 32) as u32,
+                width: FOUR[turn],
+            }
+        }
+        Lot::OneField => with_field_changed(i),
     }
-    if lot == 1 {
-        let turn = (i % 4) as usize;
-        return Case {
-            word: (random >> 32) as u32,
-            width: FOUR[turn],
-        };
-    }
+}
+
+fn with_field_changed(i: u32) -> Case {
     let recipe = (i / 128 % 280) as usize;
     let field = i % 128;
     let width = match (field ^ (i / 128)) % 16 {
@@ -96,31 +108,21 @@ fn case_of(lot: u32, i: u32, random: u64) -> Case {
     }
 }
 
-// There are many, so the counts stay in the loop's own locals.
-fn compared(rt: &HostRuntime, lot: u32, count: u32) -> Numbers {
-    let mut tally = testing::tally::none();
-    let mut by = [0; 12];
+fn compared(rt: &HostRuntime, lot: Lot, cases: u32) -> Numbers {
+    let mut all = no_numbers();
     let mut random = 0x2545_f491_4f6c_dd1d;
-    let mut i: u32 = 0;
-    while i < count {
+    for i in 0..cases {
         let case = case_of(lot, i, random);
-        let refusal = reference::refusal::refusal_of(case.word, case.width);
-        let after = counted(
-            rt,
-            tally,
-            case.word,
-            case.width,
-            agrees(case.word, case.width, refusal),
-        );
-        tally = after;
-        let place = (group(refusal) % 12) as usize;
-        by[place] = more(by[place], true);
+        let refusal = refusal_of(case.word, case.width);
+        let same = agrees(case.word, case.width, refusal);
+        count(rt, &mut all.tally, case.word, case.width, same);
+        let place = group(refusal) % 12;
+        all.by[place] = more(all.by[place], true);
         if i % 4 == 3 {
             random = next(random);
         }
-        i += 1;
     }
-    Numbers { tally, by }
+    all
 }
 
 fn report(rt: &HostRuntime, name: &[u8], all: Numbers) {
@@ -147,16 +149,16 @@ pub fn report_refusals(rt: &HostRuntime) {
     report(
         rt,
         b"every word of kind 5 at width 65",
-        compared(rt, 0, 0x1000_0000),
+        compared(rt, Lot::EveryWord, 0x1000_0000),
     );
     report(
         rt,
         b"random words at widths 0, 1, 64 and 65",
-        compared(rt, 1, 400000),
+        compared(rt, Lot::AtRandom, 400000),
     );
     report(
         rt,
         b"recipes with one field changed, at one of these widths",
-        compared(rt, 2, 35840),
+        compared(rt, Lot::OneField, 35840),
     );
 }

@@ -1,10 +1,10 @@
 // One verdict of the judge, tried by the reference. A right one is tried at operands, all of them at small widths. A wrong one is tried
 // at its own operands, so it is borne out only if the recipe is wrong.
-use reference::answer::{Answer, DONE, OF_WORD, answered, wrong};
+use reference::answer::{Refusal, Subject, refused, wrong};
 use reference::trial::{Witness, bears_out, is_right};
 use testing::say;
 use testing::tally::Tally;
-use verdict::{Judgement, Verdict};
+use verdict::Verdict;
 
 // Whether a witness shows that a recipe is wrong at a width.
 fn is_shown(word: u32, n: u32, witness: words::Witness) -> bool {
@@ -21,19 +21,23 @@ fn is_shown(word: u32, n: u32, witness: words::Witness) -> bool {
     )
 }
 
-// What was decided has the form of what is done; its number is 0 where the recipe is right, 10 where it is shown to be wrong.
-fn of_verdict(verdict: Verdict, word: u32, n: u32) -> Answer {
+fn of_verdict(verdict: Verdict, word: u32, n: u32) -> Result<(), Refusal> {
     match verdict {
-        Verdict::Right => answered(DONE, 0, 0),
-        Verdict::Wrong(witness) => wrong(DONE, witness.function, is_shown(word, n, witness)),
+        Verdict::Right => Ok(()),
+        Verdict::Wrong(witness) => Err(wrong(
+            Subject::Word,
+            witness.function,
+            is_shown(word, n, witness),
+        )),
     }
 }
 
-pub fn judged(word: u32, n: u32) -> Answer {
+// A wrong recipe is refusal 10.
+pub fn judged(word: u32, n: u32) -> Result<(), Refusal> {
     let judgement = verdict::judge(word, n);
     match judgement {
-        Judgement::Decided(verdict) => of_verdict(verdict, word, n),
-        Judgement::Refused(refusal) => answered(OF_WORD, refusal.number, refusal.place),
+        Ok(verdict) => of_verdict(verdict, word, n),
+        Err(refusal) => { Err(refused(Subject::Word, refusal.number, refusal.place)) }
     }
 }
 
@@ -45,40 +49,38 @@ pub struct Trial {
 }
 
 pub fn tried(word: u32, n: u32) -> Trial {
-    let told = judged(word, n);
-    let right = (told.form == DONE) & (told.number == 0);
-    let holds = if right {
-        is_right(word, n)
-    } else {
-        (told.form == DONE) & (told.number == 10)
-    };
-    Trial { holds, right }
+    match judged(word, n) {
+        Ok(()) => Trial {
+            holds: is_right(word, n),
+            right: true,
+        },
+        Err(refusal) => Trial {
+            holds: (refusal.number == 10) & refusal.shown,
+            right: false,
+        },
+    }
 }
 
-// The numbers are 0 where nothing is refused; the judge's is 0 too where it says right, and 10 where it says wrong.
+// Of no refusal 0 and 0.
+fn numbers_of(refusal: Option<Refusal>) -> [u64; 2] {
+    match refusal {
+        Some(refusal) => [refusal.number as u64, refusal.place as u64],
+        None => [0, 0],
+    }
+}
+
 fn say_difference(rt: &HostRuntime, word: u32, n: u32) {
-    let told = judged(word, n);
-    let refusal = reference::refusal::refusal_of(word, n);
     say::word(rt, b"differs: ", word);
-    say::line(
-        rt,
-        b" at width #; judge: # #; reference: # #\n",
-        &[
-            n as u64,
-            told.number as u64,
-            told.place as u64,
-            refusal.number as u64,
-            refusal.place as u64,
-        ],
-    );
+    say::count(rt, b" at width ", n as u64);
+    say::line(rt, b"; judge: # #", &numbers_of(judged(word, n).err()));
+    let second = reference::refusal::refusal_of(word, n);
+    say::line(rt, b"; reference: # #\n", &numbers_of(second));
 }
 
 // One comparison more. The first difference of a tally is written out.
-pub fn counted(rt: &HostRuntime, tally: Tally, word: u32, n: u32, same: bool) -> Tally {
-    if !same {
-        if tally.differ == 0 {
-            say_difference(rt, word, n);
-        }
+pub fn count(rt: &HostRuntime, tally: &mut Tally, word: u32, n: u32, same: bool) {
+    if !same & (tally.differ == 0) {
+        say_difference(rt, word, n);
     }
-    testing::tally::counted(tally, same)
+    tally.count(same);
 }

@@ -15,7 +15,7 @@ use Rattle.grammar.specs.Reading.{beginning, after, reading}
 use Rattle.reader.specs.Job.{WellFormedJob}
 use Rattle.sequence.specs.declared.File.TheVariants.{AsJob}
 use Rattle.sequence.specs.declared.State.{State}
-use Rattle.grammar.specs.declared.step.Reading.TheVariants.{Passed}
+use Rattle.std.specs.Prelude.{Ok}
 use Rattle.reader.specs.declared.Job.{Job}
 use Rattle.words.specs.declared.Prices.{Prices}
 use Rattle.grammar.proofs.Steps.{first_of_kind}
@@ -78,7 +78,7 @@ module _ (ws : List ℕ) (job : Job) (q : JobFacts ws job) where
       let gate : job.prices.gate ≡ field (get_or ws 1 0) 8 8 = omega (arith, q.prices) in
       let multiplexer : job.prices.multiplexer ≡ field (get_or ws 1 0) 0 8 = omega (arith, q.prices) in
       sym
-      (accepted ws (Passed d.end) (sym read) (omega (arith, q.size)) (omega (arith, q.size)) d.end refl (omega (arith, d.holds.sources, q.sources_least)) job
+      (accepted ws (Ok d.end) (sym read) (omega (arith, q.size)) (omega (arith, q.size)) d.end refl (omega (arith, d.holds.sources, q.sources_least)) job
       (λ x. record {
         width = width x;
         prices = record { inverter = inverter x; gate = gate x; multiplexer = multiplexer x };

@@ -19,11 +19,8 @@ use Rattle.grammar.specs.Reading.{beginning, noted, after, function_in, reading}
 use Rattle.reader.specs.Job.{job_facts, job_ended, job_of, WellFormedJob}
 use Rattle.sequence.specs.declared.File.TheVariants.{AsJob}
 use Rattle.sequence.specs.declared.State.{State}
-use Rattle.grammar.specs.declared.step.Reading.{Reading}
-use Rattle.grammar.specs.declared.step.Reading.TheVariants.{Passed, Stopped}
+use Rattle.std.specs.Prelude.{Result, Ok, Err}
 use Rattle.reader.specs.declared.Job.{Job}
-use Rattle.reader.specs.declared.JobRead.{JobRead}
-use Rattle.reader.specs.declared.JobRead.TheVariants.{Accepted, Refused}
 use Rattle.wellformed.proofs.Parts.{Each, Rising, Entry, RecipeWord, each_none, each_more, rising_none, rising_more, rising_as}
 use Rattle.grammar.proofs.Faultless.{Faultless, passed}
 use Rattle.grammar.proofs.Stages.{by_kind}
@@ -219,28 +216,28 @@ from_held ws s h q =
       rule_words = q.rule_words;
     }
 
-apart : {Q : Type 0} (r : Refusal) (job : Job) → Refused r ≡ Accepted job → Q
+apart : {Q : Type 0} (r : Refusal) (job : Job) → Err r ≡ Ok job → Q
 apart r job e = let z : ◌≡◌ {A = ℕ} 0 1 = cc in absurd (omega arith)
 
 -- what the words hold once all have passed
-pub all_held : (ws : List ℕ) (s : State) → reading AsJob beginning 0 ws ≡ Passed s → 1 ≤ s.sources
+pub all_held : (ws : List ℕ) (s : State) → reading AsJob beginning 0 ws ≡ Ok s → 1 ≤ s.sources
     → JobFacts ws (job_facts (get_or ws 0 0) (get_or ws 1 0) s)
 all_held ws s e h =
     from_held ws s h
     (passed AsJob ws (Held ws) (λ t i _. held_more ws t i) (length ws) 0 beginning s (omega arith) (held_none ws) e)
 
 module _ (ws : List ℕ) (job : Job) where
-  once_read : (r : Reading) → reading AsJob beginning 0 ws ≡ r → job_ended ws r ≡ Accepted job → JobFacts ws job
-  once_read (Passed s) e =
-      either (λ j. j ≡ Accepted job → JobFacts ws job) (ltb s.sources 1)
+  once_read : (r : Result State Refusal) → reading AsJob beginning 0 ws ≡ r → job_ended ws r ≡ Ok job → JobFacts ws job
+  once_read (Ok s) e =
+      either (λ j. j ≡ Ok job → JobFacts ws job) (ltb s.sources 1)
       (λ _. apart _ job)
       (λ h a. let u : job_facts (get_or ws 0 0) (get_or ws 1 0) s ≡ job = cc in subst (JobFacts ws) u (all_held ws s e (ltb-false s.sources 1 h)))
-  once_read (Stopped r) e = apart r job
+  once_read (Err r) e = apart r job
 
   pub well_formed : WellFormedJob ws job → JobFacts ws job
   unfolding job_of
   well_formed =
-      let Q : JobRead → Type 0 = λ j. j ≡ Accepted job → JobFacts ws job in
+      let Q : Result Job Refusal → Type 0 = λ j. j ≡ Ok job → JobFacts ws job in
       either Q (ltb (length ws) 1) (λ _. apart _ job)
       (λ _. either Q (ltb most_job_words (length ws)) (λ _. apart _ job) (λ _. once_read (reading AsJob beginning 0 ws) refl))
 

@@ -20,7 +20,7 @@ use Rattle.reader.specs.Mapping.{WellFormedMapping}
 use Rattle.sequence.specs.declared.File.{File}
 use Rattle.sequence.specs.declared.File.TheVariants.{AsMapping}
 use Rattle.sequence.specs.declared.State.{State}
-use Rattle.grammar.specs.declared.step.Reading.TheVariants.{Passed}
+use Rattle.std.specs.Prelude.{Ok}
 use Rattle.reader.specs.declared.Mapping.{Mapping}
 use Rattle.grammar.proofs.Steps.{header_fits_lem, glue_fits_lem, recipe_fits, next_of_kind, first_of_kind}
 use Rattle.wellformed.proofs.Parts.{RecipeWord, kind_of-laid, content_of-laid}
@@ -87,7 +87,7 @@ record Ready (ws : List ℕ) (s : State) (i j : ℕ) : Type 0 where
 -- The words from one on are passed over, and the last is a glue count.
 record Closes (ws : List ℕ) (s : State) (i n : ℕ) : Type 0 where
   end : State
-  ends : reading AsMapping s i (drop i ws) ≡ Passed end
+  ends : reading AsMapping s i (drop i ws) ≡ Ok end
   closed : end.stage ≡ GLUE
   bound : end.bindings ≡ n
 

@@ -20,11 +20,8 @@ use Rattle.grammar.specs.Reading.{beginning, noted, after, function_in, reading}
 use Rattle.reader.specs.Mapping.{mapping_facts, mapping_ended, mapping_of, WellFormedMapping}
 use Rattle.sequence.specs.declared.File.TheVariants.{AsMapping}
 use Rattle.sequence.specs.declared.State.{State}
-use Rattle.grammar.specs.declared.step.Reading.{Reading}
-use Rattle.grammar.specs.declared.step.Reading.TheVariants.{Passed, Stopped}
+use Rattle.std.specs.Prelude.{Result, Ok, Err}
 use Rattle.reader.specs.declared.Mapping.{Mapping}
-use Rattle.reader.specs.declared.MappingRead.{MappingRead}
-use Rattle.reader.specs.declared.MappingRead.TheVariants.{Accepted, Refused}
 use Rattle.alu.proofs.Shown.{width_of}
 use Rattle.wellformed.proofs.Parts.{Each, Rising, RecipeWord, word_of-kind, each_none, each_more, rising_none, rising_more, rising_as}
 use Rattle.grammar.proofs.Faultless.{Faultless, passed}
@@ -187,28 +184,28 @@ from_held ws s h q =
       glue = ap (λ (x : ℕ). content_of (get_or ws x 0)) last;
     }
 
-apart : {Q : Type 0} (r : Refusal) (mapping : Mapping) → Refused r ≡ Accepted mapping → Q
+apart : {Q : Type 0} (r : Refusal) (mapping : Mapping) → Err r ≡ Ok mapping → Q
 apart r mapping e = let z : ◌≡◌ {A = ℕ} 0 1 = cc in absurd (omega arith)
 
 -- what the words hold once all have passed
-all_held : (ws : List ℕ) (s : State) → reading AsMapping beginning 0 ws ≡ Passed s → s.stage ≡ GLUE
+all_held : (ws : List ℕ) (s : State) → reading AsMapping beginning 0 ws ≡ Ok s → s.stage ≡ GLUE
     → MappingFacts ws (mapping_facts (get_or ws 0 0) (get_or ws (length ws - 1) 0) s)
 all_held ws s e h =
     from_held ws s h
     (passed AsMapping ws (Held ws) (λ t i _. held_more ws t i) (length ws) 0 beginning s (omega arith) (held_none ws) e)
 
 module _ (ws : List ℕ) (mapping : Mapping) where
-  once_read : (r : Reading) → reading AsMapping beginning 0 ws ≡ r → mapping_ended ws r ≡ Accepted mapping → MappingFacts ws mapping
-  once_read (Passed s) e =
-      either (λ m. m ≡ Accepted mapping → MappingFacts ws mapping) (not (eqb s.stage GLUE))
+  once_read : (r : Result State Refusal) → reading AsMapping beginning 0 ws ≡ r → mapping_ended ws r ≡ Ok mapping → MappingFacts ws mapping
+  once_read (Ok s) e =
+      either (λ m. m ≡ Ok mapping → MappingFacts ws mapping) (not (eqb s.stage GLUE))
       (λ _. apart _ mapping)
       (λ h a. let u : mapping_facts (get_or ws 0 0) (get_or ws (length ws - 1) 0) s ≡ mapping = cc in
       subst (MappingFacts ws) u (all_held ws s e (eqb-true s.stage GLUE (not-false (eqb s.stage GLUE) h))))
-  once_read (Stopped r) e = apart r mapping
+  once_read (Err r) e = apart r mapping
 
   pub well_formed : WellFormedMapping ws mapping → MappingFacts ws mapping
   unfolding mapping_of
   well_formed =
-      let Q : MappingRead → Type 0 = λ m. m ≡ Accepted mapping → MappingFacts ws mapping in
+      let Q : Result Mapping Refusal → Type 0 = λ m. m ≡ Ok mapping → MappingFacts ws mapping in
       either Q (ltb (length ws) 1) (λ _. apart _ mapping)
       (λ _. either Q (ltb most_mapping_words (length ws)) (λ _. apart _ mapping) (λ _. once_read (reading AsMapping beginning 0 ws) refl))

@@ -8,17 +8,8 @@ ghost use Rattle.sequence.specs.Limits.{most_mapping_words};
 use bench::Bench;
 use bench_answers::MOST_TEXT_BYTES;
 use commands::Line;
-use console::Got;
 use input::KEPT_WORDS;
 use sequence::MOST_MAPPING_WORDS;
-
-// The bench, the line being read, and whether nothing more is to be read: the commands have ended, or an answer cannot be printed.
-#[derive(Clone, Copy)]
-struct Progress {
-    bench: Bench,
-    line: Line,
-    over: bool,
-}
 
 // Saves a mapping that was written, if a file is named for it.
 fn save(rt: &HostRuntime, words: &[u32])
@@ -32,8 +23,8 @@ fn save(rt: &HostRuntime, words: &[u32])
     }
 }
 
-// Answers a line.
-fn answer(rt: &HostRuntime, bench: Bench, line: Line) -> Progress {
+// The bench after a line, which is answered. There is none where the answer cannot be printed.
+fn answer(rt: &HostRuntime, bench: Bench, line: Line) -> Option<Bench> {
     let command = commands::command_in(line);
     let mut lent = [0u32; MOST_MAPPING_WORDS];
     let mut out = [0u8; MOST_TEXT_BYTES];
@@ -42,69 +33,34 @@ fn answer(rt: &HostRuntime, bench: Bench, line: Line) -> Progress {
     let printed = console::print(rt, &out[..end]);
     let words = worked.words;
     save(rt, &lent[..words]);
-    let next = worked.bench;
-    Progress {
-        bench: next,
-        line: commands::empty_line(),
-        over: !printed,
-    }
-}
-
-// Takes a byte of the commands: a line feed ends a line.
-fn take_byte(rt: &HostRuntime, bench: Bench, line: Line, byte: u8) -> Progress {
-    if byte == b'\n' {
-        return answer(rt, bench, line);
-    }
-    Progress {
-        bench,
-        line: commands::with_byte(line, byte),
-        over: false,
-    }
-}
-
-// Takes what was got of the commands. The last line may lack its line feed.
-fn take(rt: &HostRuntime, bench: Bench, line: Line, got: Got) -> Progress {
-    match got {
-        Got::Byte(byte) => take_byte(rt, bench, line, byte),
-        Got::End => {
-            answer(rt, bench, line);
-            Progress {
-                bench,
-                line,
-                over: true,
-            }
-        }
-        Got::Failed => Progress {
-            bench,
-            line,
-            over: true,
-        },
-    }
+    if printed { Some(worked.bench) } else { None }
 }
 
 // More bytes than the commands have.
 const MOST: usize = 2305843009213693952;
 
-// Reads commands and answers them.
+// Reads commands and answers each at its line feed, which the last line may lack; until they end, a read fails or an answer cannot be printed.
 fn work(rt: &HostRuntime, opened: Bench) {
     let mut bench = opened;
     let mut line = commands::empty_line();
     let mut stdin = console::unread();
-    let mut at = 0;
-    while at < MOST {
-        let taken = stdin.next(rt);
-        let got = taken.got;
-        let progress = take(rt, bench, line, got);
-        if progress.over {
+    for _ in 0..MOST {
+        let Ok(got) = stdin.next(rt) else {
             return;
+        };
+        let Some(byte) = got else {
+            answer(rt, bench, line);
+            return;
+        };
+        if byte != b'\n' {
+            line = commands::with_byte(line, byte);
+            continue;
         }
-        let next = progress.bench;
+        let Some(next) = answer(rt, bench, line) else {
+            return;
+        };
         bench = next;
-        let rest = progress.line;
-        line = rest;
-        let unread = taken.stdin;
-        stdin = unread;
-        at += 1;
+        line = commands::empty_line();
     }
 }
 

@@ -13,7 +13,7 @@ use Rattle.words.specs.Kinds.{HEADER, GLUE}
 use Rattle.words.specs.Paper.{refusal}
 use Rattle.reader.specs.Starts.{bindings_start}
 use Rattle.writer.specs.Write.{binding_word, binding_words, mapping_words, words_needed, written_of, lent_after}
-use Rattle.writer.specs.declared.Written.TheVariants.{Words, Refused}
+use Rattle.std.specs.Prelude.{Ok, Err}
 
 pub bindings_length : (ws : List ℕ) → length (binding_words ws) ≡ length ws
 unfolding binding_words
@@ -40,14 +40,15 @@ module _ (bound : List ℕ) (i : ℕ) (lent rest whole : List ℕ) (e : sets len
       let z : bindings_start + (i + 1) ≡ suc (bindings_start + i) = omega arith in rw (ew, z) (rw (drop-next bound i h) at e)
 
 pub glue_written : (bound : List ℕ) (i : ℕ) (lent whole : List ℕ) (g w : ℕ) → sets lent (bindings_start + i) (binding_words (drop i bound) ++ (g ∷ [])) ≡ whole
-    → length bound ≤ i → w ≡ g → set lent (bindings_start + i) w ≡ whole
+    → length bound ≤ i → i ≤ length bound → w ≡ g → set lent (bindings_start + length bound) w ≡ whole
 unfolding binding_words
-glue_written bound i lent whole g w e h ew = rw ew (rw (drop_of_length-le bound h) at e)
+glue_written bound i lent whole g w e h l ew =
+    let k : length bound ≡ i = omega arith in rw (ew, k) (rw (drop_of_length-le bound h) at e)
 
 -- ---- the answer
 
 module _ (width glue needed : ℕ) (bound lent : List ℕ) (en : needed ≡ words_needed (length bound)) where
-  pub too_few : length lent < needed → Refused (refusal 23 needed) ≡ written_of (length bound) lent
+  pub too_few : length lent < needed → Err (refusal 23 needed) ≡ written_of (length bound) lent
   unfolding written_of
   too_few h = rw (← en) (rw (lt-ltb (length lent) needed h) refl)
 
@@ -55,7 +56,7 @@ module _ (width glue needed : ℕ) (bound lent : List ℕ) (en : needed ≡ word
   unfolding lent_after
   kept h = rw (lt-ltb (length lent) (length (mapping_words width bound glue)) (omega (arith, mapping_length width glue bound))) refl
 
-  pub enough : needed ≤ length lent → Words needed ≡ written_of (length bound) lent
+  pub enough : needed ≤ length lent → Ok needed ≡ written_of (length bound) lent
   unfolding written_of
   enough h = rw (← en) (rw (le-ltb (length lent) needed h) refl)
 

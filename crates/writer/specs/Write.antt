@@ -1,11 +1,10 @@
 -- The words of a mapping, and lent words after they are written.
-use Rattle.std.specs.Prelude.{ℕ, ◌+◌, List, [], ◌∷◌, ◌++◌, ltb, length, if◌then◌else◌}
+use Rattle.std.specs.Prelude.{ℕ, ◌+◌, List, [], ◌∷◌, ◌++◌, ltb, length, if◌then◌else◌, Result, Ok, Err}
 use Rattle.std.proofs.lemmas.List.Edits.{sets}
 use Rattle.words.specs.Field.{content_of, word_of}
 use Rattle.words.specs.Kinds.{HEADER, BINDING, GLUE}
 use Rattle.words.specs.Paper.{Paper, refusal, accepted, told}
-use Rattle.writer.specs.declared.Written.{Written}
-use Rattle.writer.specs.declared.Written.TheVariants.{Words, Refused}
+use Rattle.words.specs.declared.Refusal.{Refusal}
 
 -- a rule's recipe as a binding: "rule, binding: a recipe"
 abbrev pub binding_word : ℕ → ℕ
@@ -24,15 +23,15 @@ abbrev pub words_needed : ℕ → ℕ
 words_needed sources = sources + 2
 
 -- "23. Lent words fewer than sources + 2; place: words needed"; else so many words are written
-unfoldable pub written_of : ℕ → List ℕ → Written
+unfoldable pub written_of : ℕ → List ℕ → Result ℕ Refusal
 written_of sources lent =
-    if ltb (length lent) (words_needed sources) then Refused (refusal 23 (words_needed sources)) else Words (words_needed sources)
+    if ltb (length lent) (words_needed sources) then Err (refusal 23 (words_needed sources)) else Ok (words_needed sources)
 
 -- "Lent words .. stay unchanged; on success words past the written ones do too": `sets lent 0 ws` is lent with ws from its first word on
 unfoldable pub lent_after : List ℕ → List ℕ → List ℕ
 lent_after ws lent = if ltb (length lent) (length ws) then lent else sets lent 0 ws
 
 -- the answer in document 01's numbers
-abbrev pub paper_of : Written → Paper
-paper_of (Words n) = accepted (n ∷ [])
-paper_of (Refused r) = told r
+abbrev pub paper_of : Result ℕ Refusal → Paper
+paper_of (Ok n) = accepted (n ∷ [])
+paper_of (Err r) = told r

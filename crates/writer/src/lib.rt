@@ -8,13 +8,6 @@ ghost use Rattle.writer.specs.Write as W;
 
 use words::Refusal;
 
-// How many words were written, or refusal 23 with the words needed.
-#[derive(Clone, Copy)]
-pub enum Written {
-    Words(usize),
-    Refused(Refusal),
-}
-
 // The words that a mapping of so many bindings takes.
 fn words_needed(sources: usize) -> usize
     requires { sources ≤ most_bindings }
@@ -30,25 +23,28 @@ pub fn binding_word(word: u32) -> u32
     words::word_of(words::BINDING, words::content_of(word))
 }
 
-// Writes the mapping that binds each of these recipes.
-pub fn write_mapping(width: u32, bound: &[u32], glue: u32, lent: &mut [u32]) -> Written
+// Writes the mapping that binds each of these recipes, and answers how many words it has; or refusal 23 with the words needed.
+pub fn write_mapping(
+    width: u32,
+    bound: &[u32],
+    glue: u32,
+    lent: &mut [u32],
+) -> Result<usize, Refusal>
     requires { Q.Writable width glue bound.now }
     ensures answer { result ≡ W.written_of (length bound.now) lent.old }
     ensures written { lent.new ≡ W.lent_after (W.mapping_words width bound.now glue) lent.old }
 {
     let needed = words_needed(bound.len());
     if lent.len() < needed {
-        return Written::Refused(Refusal {
+        return Err(Refusal {
             number: 23,
             place: needed,
         });
     }
     lent[0] = words::word_of(words::HEADER, width);
-    let mut i = 0;
-    while i < bound.len() {
-        lent[reader::BINDINGS_START + i] = binding_word(bound[i]);
-        i += 1;
+    for (i, word) in bound.iter().enumerate() {
+        lent[reader::BINDINGS_START + i] = binding_word(*word);
     }
-    lent[reader::BINDINGS_START + i] = words::word_of(words::GLUE, glue);
-    Written::Words(needed)
+    lent[reader::BINDINGS_START + bound.len()] = words::word_of(words::GLUE, glue);
+    Ok(needed)
 }

@@ -9,17 +9,17 @@ slice_bounds-bound-end c = search (shaped, bound_fit)
 pub slice_bounds-write_mapping-end : goal.slice_bounds-write_mapping-end
 slice_bounds-write_mapping-end c = search (shaped, bound_taken)
 
-pub write_mapping-written-requires : goal.write_mapping-written-requires
-write_mapping-written-requires c = search (shaped, mapping_writable)
+pub write_mapping-requires : goal.write_mapping-requires
+write_mapping-requires c = search (shaped, mapping_writable)
 
-pub returns-in-Refused-clause-answer : goal.returns-in-Refused-clause-answer
-returns-in-Refused-clause-answer c = search (shaped, words_lacking)
+pub returns-in-Err-clause-answer : goal.returns-in-Err-clause-answer
+returns-in-Err-clause-answer c = search (shaped, words_lacking)
 
-pub returns-in-Refused-clause-written : goal.returns-in-Refused-clause-written
-returns-in-Refused-clause-written c = search (shaped, mapping_laid)
+pub returns-in-Err-clause-written : goal.returns-in-Err-clause-written
+returns-in-Err-clause-written c = search (shaped, mapping_laid)
 
-pub returns-in-Words-clause-answer : goal.returns-in-Words-clause-answer
-returns-in-Words-clause-answer c = search (shaped, words_written_lem)
+pub returns-in-Ok-clause-answer : goal.returns-in-Ok-clause-answer
+returns-in-Ok-clause-answer c = search (shaped, words_written_lem)
 
-pub returns-in-Words-clause-written : goal.returns-in-Words-clause-written
-returns-in-Words-clause-written c = search (shaped, mapping_laid)
+pub returns-in-Ok-clause-written : goal.returns-in-Ok-clause-written
+returns-in-Ok-clause-written c = search (shaped, mapping_laid)

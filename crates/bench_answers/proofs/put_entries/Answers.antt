@@ -4,10 +4,10 @@ use borrow.Author.Rules.{rules}
 use Rattle.bench_answers.proofs.put_entries.Goals as goal
 
 pub loop-i-init : goal.loop-i-init
-loop-i-init c = (search rules, search rules, search rules, search rules, search rules, search all_left)
+loop-i-init c = (search rules, search all_left)
 
 pub loop-i-preserved : goal.loop-i-preserved
-loop-i-preserved c = (search rules, search rules, search rules, search rules, search rules, search one_entry)
+loop-i-preserved c = (search rules, search one_entry)
 
 pub returns-clause-text : goal.returns-clause-text
 returns-clause-text c = search all_entries

@@ -1,15 +1,11 @@
 -- `bench_answers::put_entries` meets its contract.
-use Prim.Native.Nat.{◌*◌, ◌-◌, ◌≤◌}
+use Prim.Native.Nat.{◌*◌, ◌≤◌}
 use Rattle.bench_answers.specs.Answers.{entry_lines}
 use Rattle.listing.specs.Listing.{most_binding_bytes}
 use Rattle.text.specs.Text.{Puts}
 use lib.ListN.{drop, length}
 use lib.Seq.{sets}
-use mathlib.Core.Path.{◌≡◌}
 use Rattle.bench_answers.proofs.put_entries.Given as goal
 
 abbrev pub invariant-loop-i : goal.invariant-loop-i
-invariant-loop-i l = (l.i ≤ length l.sources) × (length l.out ≡ length l.initial.out) × (length l.sources ≤ length l.bound) × (most_binding_bytes * length l.sources ≤ length l.initial.out) × (l.at ≤ most_binding_bytes * l.i) × Puts l.out l.at (entry_lines (drop l.i l.sources) (drop l.i l.bound)) (sets l.initial.out 0 (entry_lines l.sources l.bound)) (length (entry_lines l.sources l.bound))
-
-abbrev pub decreases-loop-i : goal.decreases-loop-i
-decreases-loop-i l = length l.sources - l.i
+invariant-loop-i l = (l.at ≤ most_binding_bytes * l.i) × Puts l.out l.at (entry_lines (drop l.i l.sources) (drop l.i l.bound)) (sets l.initial.out 0 (entry_lines l.sources l.bound)) (length (entry_lines l.sources l.bound))

@@ -2,8 +2,8 @@
 use Rattle.checker.proofs.Rulings.{incomplete, wrong_named, then_accounted}
 use Rattle.checker.proofs.judge_fitting.Goals as goal
 
-pub returns-then-unbound-ne-NO_FUNCTION : goal.returns-then-unbound-ne-NO_FUNCTION
-returns-then-unbound-ne-NO_FUNCTION c = search incomplete
+pub returns-in-Some : goal.returns-in-Some
+returns-in-Some c = search incomplete
 
 pub returns-in-Wrong : goal.returns-in-Wrong
 returns-in-Wrong c = search wrong_named

@@ -1,13 +1,15 @@
 -- `choice::choose` meets its contract.
 use borrow.Author.Rules.{rules}
 use lib.ListN.{length}
-use mathlib.Core.Bool.{false≢true}
-use mathlib.Core.Path.{◌≡◌}
+use mathlib.Core.Path.{◌≡◌, ap, ◌∙◌}
 use native.Mathlib.Omega.{arith}
+use Prim.Native.Nat.{ℕ}
+use Rattle.std.specs.Prelude.{Err}
 use Rattle.usage.specs.Sets.{usage}
 use Rattle.best.proofs.Choosing.{no_more_rules}
 use Rattle.choice.proofs.Choosing.{no_rule-left, next_rule, source_bound, source_used, source_unmappable, all_sources}
 use Rattle.choice.proofs.choose.Goals as goal
+use Rattle.choice.proofs.choose.Goals.{else-sources-test, then-sources-test+then-count-j+in-None}
 
 pub sources-init : goal.sources-init
 unfolding usage
@@ -23,27 +25,32 @@ sources-preserved c =
     let d = no_more_rules _ _ _ _ _ _ _ c.loop-j.invariant.2 (no_rule-left c.args.rules.now c.args.book.now _ _ c.loop-j.invariant.3 c.if-count-j.true) in (
       search rules,
       search rules,
-      search rules,
-      source_used c.args.job _ _ _ _ _ _ _ _ v.3 v.4 c.sources-test.true _ c.source_function-function.ensures c.loop-j.best d _ (search rules) c.usage_of-used.ensures,
-      source_bound c.args.job _ _ _ _ _ _ _ _ v.3 v.4 c.sources-test.true _ c.source_function-function.ensures c.loop-j.best d c.if-best.true (search rules),
+      source_used c.args.job _ _ _ _ _ _ _ _ v.2 v.3 c.sources-test.true _ c.source_function-function.ensures c.loop-j.best d _ _ (search rules) c.usage_of-used.ensures,
+      source_bound c.args.job _ _ _ _ _ _ _ _ v.2 v.3 c.sources-test.true _ c.source_function-function.ensures c.loop-j.best d _ c.in-Some.is (search rules),
       search rules,
     )
 
-pub returns-after-sources : goal.returns-after-sources
-returns-after-sources c =
-    let v = c.sources.invariant in
-    record {
-      same = all_sources c.args.job _ _ _ _ _ _ _ _ v.3 v.4 _ _ c.sources-test.false v.0 v.2;
-      size = v.1;
-      uses = λ _. let k : c.sources.i ≡ length c.args.sources.now = omega arith in rw (← k) v.3;
-    }
+pub returns-in-Some-unmappable : goal.returns-in-Some-unmappable
+returns-in-Some-unmappable c =
+    elim c.sources-test.branch [
+      | else-sources-test w ↦ absurd (let z : ◌≡◌ {A = ℕ} 0 1 = cc in omega arith)
+      | then-sources-test+then-count-j+in-None w ↦
+          let v = c.sources.invariant in
+          let e : c.in-Some-unmappable.function ≡ w.source_function-function.result = cc in
+          let d = no_more_rules _ _ _ _ _ _ _ w.loop-j.invariant.2 (no_rule-left c.args.rules.now c.args.book.now _ _ w.loop-j.invariant.3 w.if-count-j.true) in
+          record {
+            same = ap Err e ∙ source_unmappable c.args.job _ _ _ _ _ _ _ _ v.2 v.3 w.sources-test.true _ w.source_function-function.ensures w.loop-j.best d w.in-None.is;
+            size = tt;
+            uses = tt;
+          }
+    ]
 
-pub returns-else-best : goal.returns-else-best
-returns-else-best c =
-    let v = c.sources.invariant in
-    let d = no_more_rules _ _ _ _ _ _ _ c.loop-j.invariant.2 (no_rule-left c.args.rules.now c.args.book.now _ _ c.loop-j.invariant.3 c.if-count-j.true) in
-    record {
-      same = source_unmappable c.args.job _ _ _ _ _ _ _ _ v.3 v.4 c.sources-test.true _ c.source_function-function.ensures c.loop-j.best d c.if-best.false;
-      size = v.1;
-      uses = λ h. absurd (false≢true h);
-    }
+pub returns-in-None-unmappable : goal.returns-in-None-unmappable
+returns-in-None-unmappable c =
+    elim c.sources-test.branch [
+      | else-sources-test w ↦
+          let v = c.sources.invariant in
+          let k : c.sources.i ≡ length c.args.sources.now = omega arith in
+          record { same = all_sources c.args.job _ _ _ _ _ _ _ _ v.2 v.3 k; size = v.0; uses = rw (← k) v.2 }
+      | then-sources-test+then-count-j+in-None w ↦ absurd (let z : ◌≡◌ {A = ℕ} 0 1 = cc in omega arith)
+    ]

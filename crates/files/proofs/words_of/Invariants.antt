@@ -1,13 +1,10 @@
 -- `files::words_of` meets its contract.
-use Prim.Native.Nat.{◌*◌, ◌-◌, ◌/◌, ◌≤◌}
+use Prim.Native.Nat.{◌*◌}
 use Rattle.files.specs.Files.{words_of}
-use lib.ListN.{drop, length}
+use lib.ListN.{drop}
 use lib.Seq.{sets}
 use mathlib.Core.Path.{◌≡◌}
 use Rattle.files.proofs.words_of.Given as goal
 
 abbrev pub invariant-loop-i : goal.invariant-loop-i
-invariant-loop-i l = (l.i ≤ l.whole) × (length l.words ≡ length l.initial.words) × (l.whole ≡ length l.bytes / 4) × (l.whole ≤ length l.initial.words) × (sets l.words l.i (words_of (drop (4 * l.i) l.bytes)) ≡ sets l.initial.words 0 (words_of l.bytes))
-
-abbrev pub decreases-loop-i : goal.decreases-loop-i
-decreases-loop-i l = l.whole - l.i
+invariant-loop-i l = sets l.words l.i (words_of (drop (4 * l.i) l.bytes)) ≡ sets l.initial.words 0 (words_of l.bytes)

@@ -1,5 +1,4 @@
 -- `fitting::all_in_job` meets its contract.
-use borrow.Author.Rules.{rules}
 use Rattle.fitting.proofs.Fitted.{strange, in_place, none_strange}
 use Rattle.fitting.proofs.all_in_job.Goals as goal
 
@@ -7,7 +6,7 @@ pub returns-then-not-in_job : goal.returns-then-not-in_job
 returns-then-not-in_job c = search strange
 
 pub loop-i-preserved : goal.loop-i-preserved
-loop-i-preserved c = (search rules, search in_place)
+loop-i-preserved c = search in_place
 
 pub returns : goal.returns
 returns c = search none_strange

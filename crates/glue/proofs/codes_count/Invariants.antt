@@ -1,5 +1,5 @@
 -- `glue::codes_count` meets its contract.
-use Prim.Native.Nat.{◌≤◌, ◌-◌, ◌+◌}
+use Prim.Native.Nat.{◌-◌, ◌+◌}
 use mathlib.Core.Path.{◌≡◌}
 use Rattle.bits.specs.Bits.{bit}
 use Rattle.glue.specs.Glue.{codes_count, code_price, comparison_codes}
@@ -7,8 +7,5 @@ use Rattle.glue.specs.Codes.{codes}
 use Rattle.glue.proofs.codes_count.Given as goal
 
 abbrev pub invariant-loop-code : goal.invariant-loop-code
-invariant-loop-code l = (l.code ≤ 16)
-    × (l.total + codes_count (code_price l.n l.prices) (bit l.part) (codes l.code (16 - l.code)) ≡ codes_count (code_price l.n l.prices) (bit l.part) comparison_codes)
-
-abbrev pub decreases-loop-code : goal.decreases-loop-code
-decreases-loop-code l = 16 - l.code
+invariant-loop-code l =
+    l.total + codes_count (code_price l.n l.prices) (bit l.part) (codes l.code (16 - l.code)) ≡ codes_count (code_price l.n l.prices) (bit l.part) comparison_codes

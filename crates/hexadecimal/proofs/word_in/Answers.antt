@@ -1,20 +1,19 @@
 -- `hexadecimal::word_in` meets its contract.
-use mathlib.Core.Path.{refl}
-use Rattle.hexadecimal.proofs.Hexadecimal.{all_digits, digit_more, no_digit, past_eighth}
-use borrow.Author.Rules.{rules}
+use mathlib.Core.Path.{sym, ap, ◌∙◌}
+use Rattle.std.specs.Option.{option_and_then}
+use Rattle.hexadecimal.specs.Hex.{last_word}
+use Rattle.hexadecimal.proofs.Digits.{all_read, none_read, one_read}
 use Rattle.hexadecimal.proofs.word_in.Goals as goal
 
-pub loop-i-init : goal.loop-i-init
-loop-i-init c = (search rules, rw c.between-hex.ensures refl)
+pub returns-in_err-hex : goal.returns-in_err-hex
+returns-in_err-hex c =
+    c.from_residual.ensures
+    ∙ ap (option_and_then last_word)
+    (none_read _ _ _ _ c.loop-byte.invariant c.loop-byte-test.true (sym c.in_err-hex.was ∙ c.with_digit.ensures))
 
-pub returns-then-hex-ge8 : goal.returns-then-hex-ge8
-returns-then-hex-ge8 c = search past_eighth
-
-pub returns-then-digit-ge16 : goal.returns-then-digit-ge16
-returns-then-digit-ge16 c = search no_digit
-
-pub loop-i-preserved : goal.loop-i-preserved
-loop-i-preserved c = (search rules, search digit_more)
+pub loop-byte-preserved : goal.loop-byte-preserved
+loop-byte-preserved c =
+    one_read _ _ _ _ c.loop-byte.invariant c.loop-byte-test.true _ (sym c.in_ok-hex.was ∙ c.with_digit.ensures)
 
 pub returns : goal.returns
-returns c = search all_digits
+returns c = c.last_word.ensures ∙ ap (option_and_then last_word) (all_read _ _ _ _ c.loop-byte.invariant c.loop-byte-test.false)

@@ -1,6 +1,5 @@
 -- `input::keep` meets its contract.
-use Rattle.input.proofs.Parts.{part_length}
-use Rattle.input.proofs.Parts.{all_kept, no_room, room_fits}
+use Rattle.input.proofs.Parts.{part_length, all_kept, no_room, room_fits}
 use Rattle.input.proofs.keep.Goals as goal
 
 pub returns-then-kept-at : goal.returns-then-kept-at

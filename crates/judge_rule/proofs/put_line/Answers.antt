@@ -1,5 +1,5 @@
 -- `judge_rule::put_line` meets its contract.
-use Rattle.judge_rule.proofs.Asked.{all_asked, none_asked, one_asked}
+use Rattle.judge_rule.proofs.Asked.{all_asked, one_asked}
 use Rattle.judge_rule.proofs.put_line.Goals as goal
 
 pub returns-in-At-clause-said : goal.returns-in-At-clause-said
@@ -7,6 +7,3 @@ returns-in-At-clause-said c = search one_asked
 
 pub returns-in-All-clause-said : goal.returns-in-All-clause-said
 returns-in-All-clause-said c = search all_asked
-
-pub returns-in-Neither-clause-said : goal.returns-in-Neither-clause-said
-returns-in-Neither-clause-said c = search none_asked

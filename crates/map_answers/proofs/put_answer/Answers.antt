@@ -9,14 +9,14 @@ slice_bounds-put_mapping-end c = search count_part
 pub put_mapping-bytes-requires : goal.put_mapping-bytes-requires
 put_mapping-bytes-requires c = search count_room
 
-pub returns-in-Mapping-clause-fits : goal.returns-in-Mapping-clause-fits
-returns-in-Mapping-clause-fits c = (search rules, search count_within)
+pub returns-in-Ok-clause-fits : goal.returns-in-Ok-clause-fits
+returns-in-Ok-clause-fits c = (search rules, search count_within)
 
-pub returns-in-Mapping-clause-said : goal.returns-in-Mapping-clause-said
-returns-in-Mapping-clause-said c = search says_mapping
+pub returns-in-Ok-clause-said : goal.returns-in-Ok-clause-said
+returns-in-Ok-clause-said c = search says_mapping
 
-pub returns-in-Refused-clause-fits : goal.returns-in-Refused-clause-fits
-returns-in-Refused-clause-fits c = (search rules, search rules)
+pub returns-in-Err-clause-fits : goal.returns-in-Err-clause-fits
+returns-in-Err-clause-fits c = (search rules, search rules)
 
-pub returns-in-Refused-clause-said : goal.returns-in-Refused-clause-said
-returns-in-Refused-clause-said c = search says_refused
+pub returns-in-Err-clause-said : goal.returns-in-Err-clause-said
+returns-in-Err-clause-said c = search says_refused

@@ -1,25 +1,27 @@
 -- `pricer::price` meets its contract.
+use Rattle.std.proofs.lemmas.Result.{err_from_is_err_and}
 use Rattle.fitting.proofs.Pairs.{job_read, mapping_read, width_read}
-use Rattle.pricer.proofs.Pricings.{bad_job, bad_mapping, both_priced}
+use Rattle.pricer.proofs.Pricings.{unread, both_priced}
 use Rattle.pricer.proofs.price.Goals as goal
 
 pub sources_of-sources-requires : goal.sources_of-sources-requires
-sources_of-sources-requires c = search job_read
+sources_of-sources-requires c = job_read _ _ _ c.read_pair.ensures _ _ c.in_ok-facts.was
 
 pub targets_of-targets-requires : goal.targets_of-targets-requires
-targets_of-targets-requires c = search job_read
+targets_of-targets-requires c = job_read _ _ _ c.read_pair.ensures _ _ c.in_ok-facts.was
 
 pub bindings_of-bindings-requires : goal.bindings_of-bindings-requires
-bindings_of-bindings-requires c = search mapping_read
+bindings_of-bindings-requires c = mapping_read _ _ _ c.read_pair.ensures _ _ c.in_ok-facts.was
 
 pub price_under-requires : goal.price_under-requires
-price_under-requires c = search width_read
+price_under-requires c = width_read _ _ _ c.read_pair.ensures _ _ c.in_ok-facts.was
 
-pub returns-in-JobRefused : goal.returns-in-JobRefused
-returns-in-JobRefused c = search bad_job
+pub returns-in_err-facts : goal.returns-in_err-facts
+returns-in_err-facts c =
+    let p = err_from_is_err_and c.from_residual.result c.from_residual.ensures.1 in
+    rw (p.1, p.2) (unread _ _ _ c.read_pair.ensures _ c.in_err-facts.was)
 
-pub returns-in-MappingRefused : goal.returns-in-MappingRefused
-returns-in-MappingRefused c = search bad_mapping
-
-pub returns-in-Read : goal.returns-in-Read
-returns-in-Read c = search both_priced
+pub returns : goal.returns
+returns c =
+    both_priced _ _ _ c.read_pair.ensures _ _ c.in_ok-facts.was _ _ _ c.sources_of-sources.ensures c.targets_of-targets.ensures c.bindings_of-bindings.ensures _
+    c.price_under.ensures

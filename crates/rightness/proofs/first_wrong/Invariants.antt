@@ -1,6 +1,5 @@
 -- `rightness::first_wrong` meets its contract.
-use Prim.Native.Nat.{◌-◌, ◌≤◌}
-use lib.ListN.{length, drop}
+use lib.ListN.{drop}
 use mathlib.Core.Path.{◌≡◌}
 use Rattle.table.specs.Parts.{terms_with}
 use Rattle.verdict.specs.Verdicts.{Gives}
@@ -8,8 +7,5 @@ use Rattle.rightness.specs.Rightness.{unless_wrong}
 use Rattle.verdict.specs.declared.Verdict.TheVariants.{Right}
 use Rattle.rightness.proofs.first_wrong.Given as goal
 
-abbrev pub invariant-loop-i : goal.invariant-loop-i
-invariant-loop-i l = (l.i ≤ length l.bindings) × (unless_wrong (terms_with l.job l.sources l.targets) (drop l.i l.bindings) (Gives Right) ≡ unless_wrong (terms_with l.job l.sources l.targets) l.bindings (Gives Right))
-
-abbrev pub decreases-loop-i : goal.decreases-loop-i
-decreases-loop-i l = length l.bindings - l.i
+abbrev pub invariant-loop-word : goal.invariant-loop-word
+invariant-loop-word l = unless_wrong (terms_with l.job l.sources l.targets) (drop l.word-index l.bindings) (Gives Right) ≡ unless_wrong (terms_with l.job l.sources l.targets) l.bindings (Gives Right)

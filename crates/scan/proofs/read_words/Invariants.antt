@@ -1,13 +1,8 @@
 -- `scan::read_words` meets its contract.
-use Prim.Native.Nat.{◌≤◌, ◌-◌}
-use lib.ListN.{length, drop}
-use mathlib.Core.Path.{◌≡◌}
+use Rattle.std.proofs.Common.{◌≡◌, drop}
 use Rattle.grammar.specs.Asked.{Counted}
 use Rattle.grammar.specs.Reading.{reading}
 use Rattle.scan.proofs.read_words.Given as goal
 
-abbrev pub invariant-loop-i : goal.invariant-loop-i
-invariant-loop-i l = (l.i ≤ length l.words) × Counted l.s l.i × (reading l.file l.s l.i (drop l.i l.words) ≡ reading l.file l.initial.s 0 l.words)
-
-abbrev pub decreases-loop-i : goal.decreases-loop-i
-decreases-loop-i l = length l.words - l.i
+abbrev pub invariant-loop-place : goal.invariant-loop-place
+invariant-loop-place l = Counted l.s l.place × (reading l.file l.s l.place (drop l.place l.words) ≡ reading l.file l.initial.s 0 l.words)

@@ -1,5 +1,4 @@
 -- `soundness::bound_sound` meets its contract.
-use borrow.Author.Rules.{rules}
 use Rattle.soundness.proofs.Soundness.{unsound_entry, sound_entry, past_sources}
 use Rattle.soundness.proofs.bound_sound.Goals as goal
 
@@ -7,7 +6,7 @@ pub returns-then-not-entry_sound : goal.returns-then-not-entry_sound
 returns-then-not-entry_sound c = search unsound_entry
 
 pub loop-i-preserved : goal.loop-i-preserved
-loop-i-preserved c = (search rules, search sound_entry)
+loop-i-preserved c = search sound_entry
 
 pub returns : goal.returns
 returns c = search past_sources

@@ -1,9 +1,23 @@
 -- `table::in_job` meets its contract.
+use borrow.Author.Rules.{rules}
+use mathlib.Core.Path.{◌≡◌}
+use Rattle.std.proofs.Common.{tests}
+use Rattle.std.proofs.lemmas.Iterator.{YieldsList-from_slice}
+use Rattle.std.proofs.lemmas.Iterator.Search.{any_from_yields_List}
+use Rattle.table.specs.Table.{lists_source}
 use Rattle.table.proofs.Entries.{source_absent, source_present}
 use Rattle.table.proofs.in_job.Goals as goal
 
-pub returns-then-not-lists_source : goal.returns-then-not-lists_source
-returns-then-not-lists_source c = search source_absent
+pub returns-then-any : goal.returns-then-any
+unfolding lists_source
+returns-then-any c =
+    let e : c.any.result ≡ lists_source c.args.sources.now c.source_of-source.result =
+    any_from_yields_List _ _ _ _ c.any.ensures.ran (YieldsList-from_slice c.args.sources.now cc) (λ x b q k. search (rules, tests))
+    in search (source_present, e)
 
-pub returns : goal.returns
-returns c = search source_present
+pub returns-else-any : goal.returns-else-any
+unfolding lists_source
+returns-else-any c =
+    source_absent c.args.sources.now c.args.targets.now c.args.word _ c.source_of-source.ensures _
+    (any_from_yields_List _ _ _ _ c.any.ensures.ran (YieldsList-from_slice c.args.sources.now cc) (λ x b q k. search (rules, tests)))
+    c.if-any.false

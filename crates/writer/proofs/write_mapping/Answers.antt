@@ -12,13 +12,13 @@ pub returns-then-lent-needed-clause-written : goal.returns-then-lent-needed-clau
 returns-then-lent-needed-clause-written c = search kept
 
 pub loop-i-init : goal.loop-i-init
-loop-i-init c = (search rules, search rules, simp length-set (omega arith), search rules)
+loop-i-init c = (search rules, simp length-set (omega arith), search rules)
 
 pub loop-i-preserved : goal.loop-i-preserved
-loop-i-preserved c = (search rules, search rules, search rules, search binding_written)
+loop-i-preserved c = (search rules, search rules, search binding_written)
 
 pub shape_of-lent : goal.shape_of-lent
-shape_of-lent c = simp length-set (simp length-set at c.loop-i.invariant.1)
+shape_of-lent c = simp length-set (simp length-set at c.loop-i.invariant.0)
 
 pub returns-clause-answer : goal.returns-clause-answer
 returns-clause-answer c = search enough
@@ -26,4 +26,4 @@ returns-clause-answer c = search enough
 pub returns-clause-written : goal.returns-clause-written
 returns-clause-written c =
     all_written _ _ _ _ _ c.words_needed-needed.ensures _ _ c.if-lent-needed.false c.word_of.ensures
-    (glue_written _ c.loop-i.i _ _ _ _ c.loop-i.invariant.3 c.loop-i-test.false c.word_of-2.ensures)
+    (glue_written _ c.loop-i.i _ _ _ _ c.loop-i.invariant.2 c.loop-i-test.false c.loop-i.auto.i-end c.word_of-2.ensures)

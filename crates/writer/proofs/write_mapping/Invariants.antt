@@ -1,5 +1,5 @@
 -- `writer::write_mapping` meets its contract.
-use Prim.Native.Nat.{◌+◌, ◌≤◌, ◌-◌}
+use Prim.Native.Nat.{◌+◌, ◌≤◌}
 use lib.ListN.{length, drop}
 use lib.Seq.{sets}
 use mathlib.Core.List.{[], ◌∷◌, ◌++◌}
@@ -11,7 +11,4 @@ use Rattle.writer.specs.Write.{binding_words}
 use Rattle.writer.proofs.write_mapping.Given as goal
 
 abbrev pub invariant-loop-i : goal.invariant-loop-i
-invariant-loop-i l = (l.i ≤ length l.bound) × (length l.lent ≡ length l.initial.lent) × (length l.bound + 2 ≤ length l.initial.lent) × (sets l.lent (bindings_start + l.i) (binding_words (drop l.i l.bound) ++ (word_of GLUE l.glue ∷ [])) ≡ sets l.initial.lent 1 (binding_words l.bound ++ (word_of GLUE l.glue ∷ [])))
-
-abbrev pub decreases-loop-i : goal.decreases-loop-i
-decreases-loop-i l = length l.bound - l.i
+invariant-loop-i l = (length l.lent ≡ length l.initial.lent) × (length l.bound + 2 ≤ length l.initial.lent) × (sets l.lent (bindings_start + l.i) (binding_words (drop l.i l.bound) ++ (word_of GLUE l.glue ∷ [])) ≡ sets l.initial.lent 1 (binding_words l.bound ++ (word_of GLUE l.glue ∷ [])))

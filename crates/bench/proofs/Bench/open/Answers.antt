@@ -5,8 +5,8 @@ use Rattle.bench.proofs.Bench.open.Goals as goal
 pub tables_of-requires : goal.tables_of-requires
 tables_of-requires c = search as_read
 
-pub returns-in-Refused : goal.returns-in-Refused
-returns-in-Refused c = search open_refused
+pub returns-in-Err : goal.returns-in-Err
+returns-in-Err c = search open_refused
 
-pub returns-in-Accepted : goal.returns-in-Accepted
-returns-in-Accepted c = search open_accepted
+pub returns-in-Ok : goal.returns-in-Ok
+returns-in-Ok c = search open_accepted

@@ -1,5 +1,4 @@
 -- `entries::lookup::entry_of` meets its contract.
-use borrow.Author.Rules.{rules}
 use Rattle.entries.proofs.Searching.{entry_found, entry_passed, no_entry}
 use Rattle.entries.proofs.lookup.entry_of.Goals as goal
 
@@ -7,7 +6,7 @@ pub returns-then-source_function-function : goal.returns-then-source_function-fu
 returns-then-source_function-function c = search entry_found
 
 pub loop-i-preserved : goal.loop-i-preserved
-loop-i-preserved c = (search rules, search entry_passed)
+loop-i-preserved c = search entry_passed
 
 pub returns : goal.returns
 returns c = search no_entry

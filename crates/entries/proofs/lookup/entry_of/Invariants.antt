@@ -1,12 +1,9 @@
 -- `entries::lookup::entry_of` meets its contract.
-use Prim.Native.Nat.{◌+◌, ◌-◌, ◌≤◌}
-use lib.ListN.{length, drop}
+use Prim.Native.Nat.{◌+◌}
+use lib.ListN.{drop}
 use mathlib.Core.Path.{◌≡◌}
 use Rattle.entries.specs.Entries.{entry_of}
 use Rattle.entries.proofs.lookup.entry_of.Given as goal
 
 abbrev pub invariant-loop-i : goal.invariant-loop-i
-invariant-loop-i l = (l.i ≤ length l.sources) × (l.i + entry_of (drop l.i l.sources) l.function ≡ entry_of l.sources l.function)
-
-abbrev pub decreases-loop-i : goal.decreases-loop-i
-decreases-loop-i l = length l.sources - l.i
+invariant-loop-i l = l.i + entry_of (drop l.i l.sources) l.function ≡ entry_of l.sources l.function

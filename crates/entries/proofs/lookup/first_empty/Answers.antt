@@ -1,5 +1,4 @@
 -- `entries::lookup::first_empty` meets its contract.
-use borrow.Author.Rules.{rules}
 use Rattle.entries.proofs.Searching.{unbound_found, unbound_passed, none_unbound}
 use Rattle.entries.proofs.lookup.first_empty.Goals as goal
 
@@ -7,7 +6,7 @@ pub returns-then-bound-i-eq-NOTHING : goal.returns-then-bound-i-eq-NOTHING
 returns-then-bound-i-eq-NOTHING c = search unbound_found
 
 pub loop-i-preserved : goal.loop-i-preserved
-loop-i-preserved c = (search rules, search unbound_passed)
+loop-i-preserved c = search unbound_passed
 
 pub returns : goal.returns
 returns c = search none_unbound

@@ -1,12 +1,8 @@
 -- `entries::lookup::first_empty` meets its contract.
-use Prim.Native.Nat.{◌-◌, ◌≤◌}
-use lib.ListN.{length, drop}
+use lib.ListN.{drop}
 use mathlib.Core.Path.{◌≡◌}
 use Rattle.entries.specs.Entries.{first_empty}
 use Rattle.entries.proofs.lookup.first_empty.Given as goal
 
 abbrev pub invariant-loop-i : goal.invariant-loop-i
-invariant-loop-i l = (l.i ≤ length l.sources) × (first_empty (drop l.i l.sources) (drop l.i l.bound) ≡ first_empty l.sources l.bound)
-
-abbrev pub decreases-loop-i : goal.decreases-loop-i
-decreases-loop-i l = length l.sources - l.i
+invariant-loop-i l = first_empty (drop l.i l.sources) (drop l.i l.bound) ≡ first_empty l.sources l.bound

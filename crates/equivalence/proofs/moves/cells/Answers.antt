@@ -7,14 +7,11 @@ use Rattle.equivalence.proofs.Places.{filled}
 use Rattle.equivalence.proofs.moves.cells.Goals as goal
 
 pub loop-c-init : goal.loop-c-init
-loop-c-init c = (omega arith, refl, λ k h. absurd (omega arith))
+loop-c-init c = (refl, λ k h. absurd (omega arith))
 
 pub loop-c-preserved : goal.loop-c-preserved
-loop-c-preserved c = let l = c.loop-c in (
-  omega arith,
-  length-set l.found l.c c.cell_of-e.result ∙ l.invariant.1,
-  filled no_cell (cell_at c.args.s) l.found l.c c.cell_of-e.result (omega arith) c.cell_of-e.ensures l.invariant.2,
-)
+loop-c-preserved c = let l = c.loop-c in
+    (length-set l.found l.c c.cell_of.result ∙ l.invariant.0, filled no_cell (cell_at c.args.s) l.found l.c c.cell_of.result (omega arith) c.cell_of.ensures l.invariant.1)
 
 pub returns : goal.returns
-returns c = record { at = λ i h. c.loop-c.invariant.2 i (omega arith) }
+returns c = record { at = λ k h. c.loop-c.invariant.1 k (omega arith) }

@@ -11,14 +11,14 @@ failing_pair-requires c = (search rules, search rules, search top-member)
 pub returns-then-j-eq0 : goal.returns-then-j-eq0
 returns-then-j-eq0 c = search ends_at_top
 
-pub offset_bounds-sets-at : goal.offset_bounds-sets-at
-offset_bounds-sets-at c = let h : c.kept_at-at.result < 64 = search kept_lt in omega arith
+pub offset_bounds-rounds-at : goal.offset_bounds-rounds-at
+offset_bounds-rounds-at c = let h : c.kept_at-at.result < 64 = search kept_lt in omega arith
 
-pub bounds-sets-at : goal.bounds-sets-at
-bounds-sets-at c = let h : c.kept_at-at.result < 64 = search kept_lt in omega arith
+pub bounds-rounds-at : goal.bounds-rounds-at
+bounds-rounds-at c = let h : c.kept_at-at.result < 64 = search kept_lt in omega arith
 
-pub failing_pair-k-requires : goal.failing_pair-k-requires
-failing_pair-k-requires c = (search rules, search rules, search low_member)
+pub failing_pair-pair-requires : goal.failing_pair-pair-requires
+failing_pair-pair-requires c = (search rules, search rules, search low_member)
 
 pub returns-then-m-ge64 : goal.returns-then-m-ge64
 returns-then-m-ge64 c = search ends_below

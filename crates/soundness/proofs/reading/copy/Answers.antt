@@ -6,10 +6,10 @@ use Rattle.words.proofs.Copies.{one_copied, all_copied}
 use Rattle.soundness.proofs.reading.copy.Goals as goal
 
 pub loop-i-init : goal.loop-i-init
-loop-i-init c = (search rules, search rules, search rules, rw add-zero refl)
+loop-i-init c = (search rules, search rules, rw add-zero refl)
 
 pub loop-i-preserved : goal.loop-i-preserved
-loop-i-preserved c = (search rules, search rules, search rules, search one_copied)
+loop-i-preserved c = (search rules, search rules, search one_copied)
 
 pub returns : goal.returns
 returns c = search all_copied

@@ -2,5 +2,5 @@
 use Rattle.soundness.proofs.Soundness.{as_accepted}
 use Rattle.soundness.proofs.reading.holds.Goals as goal
 
-pub returns-in-Accepted : goal.returns-in-Accepted
-returns-in-Accepted c = search as_accepted
+pub returns-in-Ok : goal.returns-in-Ok
+returns-in-Ok c = search as_accepted

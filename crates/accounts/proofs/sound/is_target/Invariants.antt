@@ -1,9 +1,0 @@
--- `accounts::sound::is_target` meets its contract.
-use Rattle.std.proofs.Common.{◌-◌, ◌≤◌}
-use Rattle.accounts.proofs.sound.is_target.Given as goal
-
-abbrev pub invariant-loop-i : goal.invariant-loop-i
-invariant-loop-i l = 0 ≤ l.i
-
-abbrev pub decreases-loop-i : goal.decreases-loop-i
-decreases-loop-i l = 54 - l.i

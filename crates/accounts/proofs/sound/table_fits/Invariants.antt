@@ -1,9 +1,0 @@
--- `accounts::sound::table_fits` meets its contract.
-use Rattle.std.proofs.Common.{◌-◌, ◌≤◌}
-use Rattle.accounts.proofs.sound.table_fits.Given as goal
-
-abbrev pub invariant-loop-i : goal.invariant-loop-i
-invariant-loop-i l = l.i ≤ 27
-
-abbrev pub decreases-loop-i : goal.decreases-loop-i
-decreases-loop-i l = 27 - l.i

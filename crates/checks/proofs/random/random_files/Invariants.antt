@@ -1,9 +1,0 @@
--- `checks::random::random_files` meets its contract.
-use Rattle.std.proofs.Common.{◌-◌, ◌≤◌}
-use Rattle.checks.proofs.random.random_files.Given as goal
-
-abbrev pub invariant-loop-i : goal.invariant-loop-i
-invariant-loop-i l = l.i ≤ l.count
-
-abbrev pub decreases-loop-i : goal.decreases-loop-i
-decreases-loop-i l = l.count - l.i

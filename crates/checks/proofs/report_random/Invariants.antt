@@ -1,9 +1,0 @@
--- `checks::report_random` meets its contract.
-use Rattle.std.proofs.Common.{◌-◌, ◌≤◌}
-use Rattle.checks.proofs.report_random.Given as goal
-
-abbrev pub invariant-loop-i : goal.invariant-loop-i
-invariant-loop-i l = l.i ≤ 5
-
-abbrev pub decreases-loop-i : goal.decreases-loop-i
-decreases-loop-i l = 5 - l.i

@@ -1,6 +1,0 @@
--- `opening::targets_table` meets its contract.
-use Rattle.opening.proofs.Copying.{table_filled}
-use Rattle.opening.proofs.targets_table.Goals as goal
-
-pub returns : goal.returns
-returns c = search table_filled

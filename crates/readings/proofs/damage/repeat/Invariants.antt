@@ -1,9 +1,0 @@
--- `readings::damage::repeat` meets its contract.
-use Rattle.std.proofs.Common.{◌≡◌, ◌-◌, length}
-use Rattle.readings.proofs.damage.repeat.Given as goal
-
-abbrev pub invariant-loop-i : goal.invariant-loop-i
-invariant-loop-i l = length l.words ≡ length l.initial.words
-
-abbrev pub decreases-loop-i : goal.decreases-loop-i
-decreases-loop-i l = l.i - l.index

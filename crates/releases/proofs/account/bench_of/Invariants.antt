@@ -1,9 +1,0 @@
--- `releases::account::bench_of` meets its contract.
-use Rattle.std.proofs.Common.{◌≡◌, ◌-◌, ◌≤◌, length}
-use Rattle.releases.proofs.account.bench_of.Given as goal
-
-abbrev pub invariant-loop-i : goal.invariant-loop-i
-invariant-loop-i l = (l.i ≤ 27) × (length l.bench ≡ 88)
-
-abbrev pub decreases-loop-i : goal.decreases-loop-i
-decreases-loop-i l = 27 - l.i

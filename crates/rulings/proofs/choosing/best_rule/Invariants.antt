@@ -1,9 +1,0 @@
--- `rulings::choosing::best_rule` meets its contract.
-use Rattle.std.proofs.Common.{◌≤◌}
-use Rattle.rulings.proofs.choosing.best_rule.Given as goal
-
-abbrev pub invariant-loop-i : goal.invariant-loop-i
-invariant-loop-i l = 0 ≤ l.i
-
-abbrev pub decreases-loop-i : goal.decreases-loop-i
-decreases-loop-i l = l.i
