@@ -50,7 +50,7 @@ fn is_help(argument: &[u8]) -> bool
 }
 
 // Whether the first argument asks for help.
-pub fn asks_help(rt: &HostRuntime) -> bool {
+fn asks_help(rt: &HostRuntime) -> bool {
     if count(rt) < 2 {
         return false;
     }
@@ -59,9 +59,21 @@ pub fn asks_help(rt: &HostRuntime) -> bool {
     is_help(&argument[..length])
 }
 
-// Says on standard error how a program is called.
-pub fn usage(rt: &HostRuntime, text: &[u8]) {
-    let _ = rt.stderr().write_all(text);
+// Whether a program is to run, by how many arguments it was called with, its own name among them. If not, it is said how it is called: on
+// standard output with the rest of the help that was asked for, or on standard error.
+pub fn may_run(rt: &HostRuntime, fewest: usize, most: usize, usage: &[u8], help: &[u8]) -> bool {
+    if asks_help(rt) {
+        if console::print(rt, usage) {
+            console::print(rt, help);
+        }
+        return false;
+    }
+    let count = count(rt);
+    if count < fewest || most < count {
+        console::tell(rt, usage);
+        return false;
+    }
+    true
 }
 
 // The value of a decimal digit.

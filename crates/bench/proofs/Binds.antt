@@ -1,13 +1,14 @@
 -- The ways out of a bind.
 use mathlib.Core.Path.{◌≡◌, refl, sym, ap, subst, ◌∙◌}
 use mathlib.Core.Bool.{Bool, true, false, not}
-use Prim.Native.Nat.{ℕ, ◌≤◌, ◌<◌}
+use Prim.Native.Nat.{ℕ, ◌<◌}
 use native.Mathlib.Omega.{arith}
 use lib.Dec.{eqb}
 use lib.ListN.{length, set}
-use borrow.Author.Tests.{eq-eqb, ne_eqb, eqb-true, eqb-false, not-true, not-false}
-use Rattle.std.specs.Prelude.{if◌then◌else◌}
+use borrow.Author.Tests.{eq-eqb, ne_eqb, eqb-true, not-true, not-false}
+use Rattle.std.specs.Prelude.{if◌then◌else◌, Option, Some, Result, Ok, Err, ⊤}
 use Rattle.words.specs.Paper.{refusal}
+use Rattle.words.specs.declared.Refusal.{Refusal}
 use Rattle.words.specs.declared.Witness.{Witness}
 use Rattle.words.proofs.Choices.{either}
 use Rattle.recipe.specs.Fields.{source_of}
@@ -18,62 +19,94 @@ use Rattle.verdict.proofs.Verdicting.{right_says, wrong_says}
 use Rattle.sequence.specs.Limits.{most_sources}
 use Rattle.table.proofs.Entries.{in_job-parts}
 use Rattle.soundness.specs.Sound.{sources_on, targets_on, tables_sound, rule_fault, glue_on}
-use Rattle.soundness.proofs.Soundness.{sound_sources, sound_tables}
-use Rattle.bench.specs.Calls.{bench_with, sound_bench, gives, in_tables, entry_for, has_binding, bound_at, bind_fault, bind_place, claim_on, bind_of, Binds}
+use Rattle.soundness.proofs.Soundness.{sound_tables}
+use Rattle.bench.specs.Calls.{bench_with, sound_bench, sound_check, holding, gives, refuses, in_tables, entry_for, has_binding, bound_at, bind_check, claim_on, bind_of, Binds}
 use Rattle.bench.specs.Shape.{Shaped}
 use Rattle.bench.specs.declared.Bench.{Bench}
-use Rattle.bench.specs.declared.Answer.TheVariants.{Done, Refused, Wrong}
-use Rattle.bench.proofs.Shapes.{sources_few}
-use Rattle.entries.proofs.Searching.{lists_entry}
+use Rattle.bench.specs.declared.CallError.TheVariants.{Wrong}
+use Rattle.entries.proofs.Tabled.{entry_few}
+use Rattle.entries.proofs.Searching.{place_of, lists_entry, entry_there}
 
 -- ---- the entry
 
+-- where the source of a function stands
+abbrev pub place_for : Bench → ℕ → ℕ
+place_for b f = place_of (sources_on b.tables) f
+
+pub at_place : (b : Bench) (f w : ℕ) → place_for b f < length (sources_on b.tables)
+    → bound_at b (entry_for b f) w ≡ holding b (set b.bound (place_for b f) w)
+at_place b f w h = ap (λ (x : Option ℕ). bound_at b x w) (entry_there (sources_on b.tables) f h)
+
 -- a source of the tables has an entry
-pub tables_entry : (b : Bench) (w : ℕ) → in_tables b w ≡ true → entry_for b (source_of w) < length (sources_on b.tables)
+pub tables_entry : (b : Bench) (w : ℕ) → in_tables b w ≡ true → place_for b (source_of w) < length (sources_on b.tables)
 tables_entry b w t =
     lists_entry (sources_on b.tables) (source_of w) (in_job-parts (sources_on b.tables) (targets_on b.tables) w t).0
 
-pub entry_there : (b : Bench) (w : ℕ) → sound_bench b ≡ true → in_tables b w ≡ true → (i : ℕ) → i ≡ entry_for b (source_of w) → Shaped b
-    → i < most_sources
-entry_there b w s t i ei h = omega (arith, ei, sources_few b h (sound_sources b.tables b.bound b.glue s), tables_entry b w t)
+-- what is put in the entry of a function's source
+module _ (b : Bench) (f w : ℕ) (r : Option ℕ) (er : r ≡ entry_for b f) where
+  pub put_within : (i : ℕ) → r ≡ Some i → Shaped b → tables_sound b.tables ≡ true → i < most_sources
+  put_within i e h s = entry_few b.tables f i r er e h.tables_shaped s
+
+  pub put_there : (i g : ℕ) → r ≡ Some i → g ≡ glue_on b.tables (set b.bound i w)
+      → bench_with b.tables (set b.bound i w) g ≡ bound_at b (entry_for b f) w
+  put_there i g e eg =
+      ap (bench_with b.tables (set b.bound i w)) eg ∙ ap (λ (x : Option ℕ). bound_at b x w) (sym e ∙ er)
 
 -- ---- the refusals before 10
 
-module _ (b : Bench) (w : ℕ) (p : Bool) (ep : p ≡ sound_bench b) where
-  pub bind_unsound : not p ≡ true → 20 ≡ bind_fault b w
-  unfolding bind_fault
-  bind_unsound h = rw (sym ep ∙ not-true p h) refl
+module _ (b : Bench) (r : Result ⊤ Refusal) (er : r ≡ sound_check b) where
+  -- an unsound bench has refusal 20
+  pub unsound : {X : Type 0} (f : Refusal → X) (y : X) (x : Refusal) → r ≡ Err x
+      → f x ≡ (if not (sound_bench b) then f (refusal 20 0) else y)
+  unsound {X = X} f y x e = go (sound_bench b) (sym e ∙ er)
+    where
+      go : (p : Bool) → ◌≡◌ {A = Result ⊤ Refusal} (Err x) (if not p then Err (refusal 20 0) else Ok tt)
+          → f x ≡ (if not p then f (refusal 20 0) else y)
+      go true q = absurd (let z : ◌≡◌ {A = ℕ} 0 1 = cc in omega arith)
+      go false q = cc
 
-  module _ (hp : not p ≡ false) (x : ℕ) (ex : x ≡ rule_fault w) where
-    pub bad_word : (x ≡ 0 → ⊥) → x ≡ bind_fault b w
-    unfolding bind_fault
-    bad_word h = rw (sym ep ∙ not-false p hp) (rw (ne_eqb (rule_fault w) 0 (λ e. h (ex ∙ e))) ex)
+  pub passed_sound : (v : ⊤) → r ≡ Ok v → sound_bench b ≡ true
+  passed_sound v e = go (sound_bench b) (sym e ∙ er)
+    where
+      go : (p : Bool) → ◌≡◌ {A = Result ⊤ Refusal} (Ok v) (if not p then Err (refusal 20 0) else Ok tt) → p ≡ true
+      go true q = refl
+      go false q = absurd (let z : ◌≡◌ {A = ℕ} 0 1 = cc in omega arith)
 
-    module _ (hx : x ≡ 0) (q : Bool) (eq : q ≡ in_tables b w) where
-      pub bind_absent : not q ≡ true → 8 ≡ bind_fault b w
-      unfolding bind_fault
-      bind_absent h =
-          rw (sym ep ∙ not-false p hp) (rw (eq-eqb (rule_fault w) 0 (sym ex ∙ hx)) (rw (sym eq ∙ not-true q h) refl))
+  pub passed_tables : (v : ⊤) → r ≡ Ok v → tables_sound b.tables ≡ true
+  passed_tables v e = sound_tables b.tables b.bound b.glue (passed_sound v e)
 
-      module _ (hq : not q ≡ false) (f : ℕ) (ef : f ≡ source_of w) (t : Bool) (et : t ≡ has_binding b f) where
-        by_entry : bind_fault b w ≡ (if t then 21 else 0)
-        unfolding bind_fault
-        by_entry =
-            rw (sym ep ∙ not-false p hp)
-            (rw (eq-eqb (rule_fault w) 0 (sym ex ∙ hx))
-            (rw (sym eq ∙ not-false q hq) (ap (λ (z : Bool). if z then 21 else 0) (sym (et ∙ ap (has_binding b) ef)))))
+  module _ (w : ℕ) where
+    pub bind_unsound : (x : Refusal) → r ≡ Err x → Err x ≡ bind_check b w
+    unfolding bind_check
+    bind_unsound x e = unsound Err _ x e
 
-        pub bind_taken : t ≡ true → 21 ≡ bind_fault b w
-        bind_taken h = sym (by_entry ∙ rw h refl)
+    module _ (v : ⊤) (ok : r ≡ Ok v) (x : ℕ) (ex : x ≡ rule_fault w) where
+      pub bad_word : (x ≡ 0 → ⊥) → Err (refusal x 0) ≡ bind_check b w
+      unfolding bind_check
+      bad_word h =
+          rw (passed_sound v ok)
+          (rw (ne_eqb (rule_fault w) 0 (λ e. h (ex ∙ e))) (ap (λ (y : ℕ). Err (refusal y 0)) ex))
 
-        pub bind_free : t ≡ false → 0 ≡ bind_fault b w
-        bind_free h = sym (by_entry ∙ rw h refl)
+      module _ (hx : x ≡ 0) (q : Bool) (eq : q ≡ in_tables b w) where
+        pub bind_absent : not q ≡ true → Err (refusal 8 0) ≡ bind_check b w
+        unfolding bind_check
+        bind_absent h =
+            rw (passed_sound v ok) (rw (eq-eqb (rule_fault w) 0 (sym ex ∙ hx)) (rw (sym eq ∙ not-true q h) refl))
 
-pub at_function : (x w f : ℕ) → x ≡ 21 → f ≡ source_of w → f ≡ bind_place x w
-at_function x w f e ef = rw (eq-eqb x 21 e) ef
+        module _ (hq : not q ≡ false) (f : ℕ) (ef : f ≡ source_of w) (t : Bool) (et : t ≡ has_binding b f) where
+          by_entry : bind_check b w ≡ (if t then Err (refusal 21 (source_of w)) else Ok tt)
+          unfolding bind_check
+          by_entry =
+              rw (passed_sound v ok)
+              (rw (eq-eqb (rule_fault w) 0 (sym ex ∙ hx))
+              (rw (sym eq ∙ not-false q hq)
+              (ap (λ (z : Bool). if z then Err (refusal 21 (source_of w)) else Ok tt) (sym (et ∙ ap (has_binding b) ef)))))
 
-pub at_word : (x w : ℕ) → (x ≡ 21 → ⊥) → 0 ≡ bind_place x w
-at_word x w h = rw (ne_eqb x 21 h) refl
+          pub bind_taken : t ≡ true → Err (refusal 21 f) ≡ bind_check b w
+          bind_taken h = ap (λ (y : ℕ). Err (refusal 21 y)) ef ∙ sym (by_entry ∙ rw h refl)
+
+          pub bind_free : t ≡ false → Ok tt ≡ bind_check b w
+          bind_free h = sym (by_entry ∙ rw h refl)
 
 -- ---- what a bind that is not refused before 10 has shown
 
@@ -83,14 +116,14 @@ pub record Checked (b : Bench) (w : ℕ) : Type 0 where
   pub there : in_tables b w ≡ true
   pub free : has_binding b (source_of w) ≡ false
 
-pub checked : (b : Bench) (w : ℕ) → bind_fault b w ≡ 0 → Checked b w
-unfolding bind_fault
+pub checked : (b : Bench) (w : ℕ) → bind_check b w ≡ Ok tt → Checked b w
+unfolding bind_check
 checked b w =
-    let Q : ℕ → Type 0 = λ x. x ≡ 0 → Checked b w in
-    either Q (not (sound_bench b)) (λ _ e. absurd (omega arith))
-    (λ s. either Q (not (eqb (rule_fault w) 0)) (λ r e. absurd (eqb-false (rule_fault w) 0 (not-true (eqb (rule_fault w) 0) r) e))
-    (λ r. either Q (not (in_tables b w)) (λ _ e. absurd (omega arith))
-    (λ t. either Q (has_binding b (source_of w)) (λ _ e. absurd (omega arith))
+    let Q : Result ⊤ Refusal → Type 0 = λ x. x ≡ Ok tt → Checked b w in
+    either Q (not (sound_bench b)) (λ _ e. absurd (let z : ◌≡◌ {A = ℕ} 0 1 = cc in omega arith))
+    (λ s. either Q (not (eqb (rule_fault w) 0)) (λ _ e. absurd (let z : ◌≡◌ {A = ℕ} 0 1 = cc in omega arith))
+    (λ r. either Q (not (in_tables b w)) (λ _ e. absurd (let z : ◌≡◌ {A = ℕ} 0 1 = cc in omega arith))
+    (λ t. either Q (has_binding b (source_of w)) (λ _ e. absurd (let z : ◌≡◌ {A = ℕ} 0 1 = cc in omega arith))
     (λ f _. record {
       sound = not-false (sound_bench b) s;
       a_rule = eqb-true (rule_fault w) 0 (not-false (eqb (rule_fault w) 0) r);
@@ -100,46 +133,29 @@ checked b w =
 
 -- ---- the call
 
-module _ (b : Bench) (w x : ℕ) (ex : x ≡ bind_fault b w) where
-  pub bind_refused : (i : ℕ) → (x ≡ 0 → ⊥) → i ≡ bind_place x w → Binds b w (gives b (Refused (refusal x i)))
+module _ (b : Bench) (w : ℕ) (r : Result ⊤ Refusal) (er : r ≡ bind_check b w) where
+  pub bind_refused : (x : Refusal) → r ≡ Err x → Binds b w (refuses b x)
   unfolding bind_of
-  bind_refused i h ei =
-      rw (ne_eqb (bind_fault b w) 0 (λ e. h (ex ∙ e))) (λ k. gives b (Refused (refusal (ex k) ((ei ∙ ap (λ (y : ℕ). bind_place y w) ex) k))))
+  bind_refused x e = rw (sym er ∙ e) refl
 
-  module _ (hx : x ≡ 0) where
-    checked_sound : sound_bench b ≡ true
-    checked_sound = (checked b w (sym ex ∙ hx)).sound
+  module _ (u : ⊤) (ok : r ≡ Ok u) where
+    passed : Checked b w
+    passed = checked b w (sym er ∙ ok)
 
     pub checked_tables : tables_sound b.tables ≡ true
-    checked_tables = sound_tables b.tables b.bound b.glue checked_sound
-
-    module _ (f i : ℕ) (ef : f ≡ source_of w) (ei : (i ≡ entry_for b f) × (i ≤ most_sources)) where
-      its_entry : i ≡ entry_for b (source_of w)
-      its_entry = ei.0 ∙ ap (entry_for b) ef
-
-      pub checked_entry : Shaped b → i < most_sources
-      checked_entry h = entry_there b w checked_sound (checked b w (sym ex ∙ hx)).there i its_entry h
-
-      pub bind_right : (v : Verdict) (g : ℕ) → Says (claim_on b w) b.tables.width v → v ≡ verdict.Right
-          → g ≡ glue_on b.tables (set b.bound i w) → Binds b w (gives (bench_with b.tables (set b.bound i w) g) Done)
-      unfolding bind_of
-      bind_right v g says ev eg =
-          rw (eq-eqb (bind_fault b w) 0 (sym ex ∙ hx))
-          (rw (sym (right_says (claim_on b w) b.tables.width v says ev))
-          (ap (λ (y : ℕ). gives (bench_with b.tables (set b.bound i w) y) Done) eg
-          ∙ ap (λ (y : ℕ). gives (bound_at b y w) Done) its_entry))
+    checked_tables = sound_tables b.tables b.bound b.glue passed.sound
 
     module _ (v : Verdict) (says : Says (claim_on b w) b.tables.width v) where
-      pub bind_wrong : (z : Witness) → v ≡ verdict.Wrong z → Binds b w (gives b (Wrong z))
+      pub bind_right : (f : ℕ) (a : Bench) → v ≡ verdict.Right → f ≡ source_of w → a ≡ bound_at b (entry_for b f) w
+          → Binds b w (gives a (Ok tt))
+      unfolding bind_of
+      bind_right f a ev ef ea =
+          rw (sym er ∙ ok)
+          (rw (sym (right_says (claim_on b w) b.tables.width v says ev))
+          (ap (λ (y : Bench). gives y (Ok tt)) (ea ∙ ap (λ (y : ℕ). bound_at b (entry_for b y) w) ef)))
+
+      pub bind_wrong : (z : Witness) → v ≡ verdict.Wrong z → Binds b w (gives b (Err (Wrong z)))
       unfolding bind_of
       bind_wrong z ev =
-          rw (eq-eqb (bind_fault b w) 0 (sym ex ∙ hx))
+          rw (sym er ∙ ok)
           (rw (sym (wrong_says (claim_on b w) b.tables.width v says z ev)) (refl, subst (Says (claim_on b w) b.tables.width) ev says))
-
--- ---- what a sound bench is asked for
-
-pub is_sound_lem : (b : Bench) (p : Bool) → p ≡ sound_bench b → not p ≡ false → sound_bench b ≡ true
-is_sound_lem b p ep hp = sym ep ∙ not-false p hp
-
-pub tables_sound_lem : (b : Bench) (p : Bool) → p ≡ sound_bench b → not p ≡ false → tables_sound b.tables ≡ true
-tables_sound_lem b p ep hp = sound_tables b.tables b.bound b.glue (is_sound_lem b p ep hp)

@@ -1,39 +1,27 @@
 -- The ways out of a release.
 use mathlib.Core.Path.{◌≡◌, refl, sym, ap, ◌∙◌}
 use mathlib.Core.Bool.{Bool, true, false, not}
-use Prim.Native.Nat.{ℕ, ◌≤◌, ◌<◌}
-use native.Mathlib.Omega.{arith}
-use lib.ListN.{set}
+use Prim.Native.Nat.{ℕ}
 use borrow.Author.Tests.{not-true, not-false}
+use Rattle.std.specs.Prelude.{Result, Ok, Err, ⊤}
 use Rattle.words.specs.Paper.{refusal}
-use Rattle.sequence.specs.Limits.{most_sources}
-use Rattle.soundness.specs.Sound.{nothing, sources_on, glue_on}
-use Rattle.entries.proofs.Searching.{bound_within}
-use Rattle.bench.specs.Calls.{bench_with, sound_bench, entry_for, has_binding, bound_at, gives, release_of}
-use Rattle.bench.specs.Shape.{Shaped}
+use Rattle.words.specs.declared.Refusal.{Refusal}
+use Rattle.soundness.specs.Sound.{nothing}
+use Rattle.bench.specs.Calls.{sound_check, entry_for, has_binding, bound_at, gives, refuses, release_of}
 use Rattle.bench.specs.declared.Bench.{Bench}
-use Rattle.bench.specs.declared.Answer.TheVariants.{Done, Refused}
+use Rattle.bench.proofs.Binds.{unsound, passed_sound}
 
-module _ (b : Bench) (f : ℕ) (p : Bool) (ep : p ≡ sound_bench b) where
-  pub release_unsound : not p ≡ true → gives b (Refused (refusal 20 0)) ≡ release_of b f
+module _ (b : Bench) (f : ℕ) (r : Result ⊤ Refusal) (er : r ≡ sound_check b) where
+  pub release_unsound : (x : Refusal) → r ≡ Err x → refuses b x ≡ release_of b f
   unfolding release_of
-  release_unsound h = rw (sym ep ∙ not-true p h) refl
+  release_unsound x e = unsound b r er (refuses b) _ x e
 
-  module _ (hp : not p ≡ false) (q : Bool) (eq : q ≡ has_binding b f) where
-    pub release_unbound : not q ≡ true → gives b (Refused (refusal 24 f)) ≡ release_of b f
+  module _ (v : ⊤) (ok : r ≡ Ok v) (q : Bool) (eq : q ≡ has_binding b f) where
+    pub release_unbound : not q ≡ true → refuses b (refusal 24 f) ≡ release_of b f
     unfolding release_of
-    release_unbound h = rw (sym ep ∙ not-false p hp) (rw (sym eq ∙ not-true q h) refl)
+    release_unbound h = rw (passed_sound b r er v ok) (rw (sym eq ∙ not-true q h) refl)
 
-    module _ (hq : not q ≡ false) (i : ℕ) (ei : (i ≡ entry_for b f) × (i ≤ most_sources)) where
-      pub released_entry : Shaped b → i < most_sources
-      released_entry h =
-          omega (arith, ei.0, h.bound_entries, bound_within (sources_on b.tables) b.bound f (sym eq ∙ not-false q hq))
-
-      pub release_done : (g : ℕ) → g ≡ glue_on b.tables (set b.bound i nothing)
-          → gives (bench_with b.tables (set b.bound i nothing) g) Done ≡ release_of b f
-      unfolding release_of
-      release_done g eg =
-          rw (sym ep ∙ not-false p hp)
-          (rw (sym eq ∙ not-false q hq)
-          (ap (λ (x : ℕ). gives (bench_with b.tables (set b.bound i nothing) x) Done) eg
-          ∙ ap (λ (x : ℕ). gives (bound_at b x nothing) Done) ei.0))
+    pub release_done : not q ≡ false → (a : Bench) → a ≡ bound_at b (entry_for b f) nothing → gives a (Ok tt) ≡ release_of b f
+    unfolding release_of
+    release_done h a ea =
+        rw (passed_sound b r er v ok) (rw (sym eq ∙ not-false q h) (ap (λ (x : Bench). gives x (Ok tt)) ea))

@@ -1,9 +1,9 @@
 -- What these functions ask of their callers. Nobody has to believe this: each caller proves it.
-use Rattle.std.specs.Prelude.{ℕ, ◌+◌, ◌*◌, ◌≤◌, List, length}
+use Rattle.std.specs.Prelude.{ℕ, ◌+◌, ◌*◌, ◌≤◌, List, length, Result}
 use Rattle.listing.specs.Listing.{most_binding_bytes}
 use Rattle.lines.specs.Lines.{most_line_bytes}
 use Rattle.sequence.specs.Limits.{most_mapping_words}
-use Rattle.bench.specs.declared.Answer.{Answer}
+use Rattle.bench.specs.declared.CallError.{CallError}
 use Rattle.bench_answers.specs.Answers.{words_finished}
 
 -- no text has more bytes: a line for each word of a mapping, and the longest line
@@ -14,9 +14,12 @@ pub record Room (lent out : List ℕ) : Type 0 where
   pub few_words : length lent ≤ most_mapping_words
   pub room : most_text_bytes ≤ length out
 
-pub record RoomFor (a : Answer) (done lent out : List ℕ) : Type 0 where
+pub record LineRoom (done out : List ℕ) : Type 0 where
   pub short_done : length done ≤ most_line_bytes
-  pub within : words_finished a ≤ length lent
+  pub room : most_text_bytes ≤ length out
+
+pub record MappingRoom (answer : Result ℕ CallError) (lent out : List ℕ) : Type 0 where
+  pub within : words_finished answer ≤ length lent
   pub enough : Room lent out
 
 -- an entry for each source, and room for the line of each

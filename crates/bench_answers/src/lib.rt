@@ -3,12 +3,15 @@
 
 ghost use Rattle.std.specs.Prelude.{◌≡◌, ◌+◌, ◌≤◌, length};
 ghost use Rattle.text.specs.Text as P;
+ghost use Rattle.lines.specs.Lines.{most_line_bytes};
+ghost use Rattle.bench.specs.Calls as B;
 ghost use Rattle.listing.specs.Listing as L;
 ghost use Rattle.bench_answers.specs.Answers as S;
 ghost use Rattle.bench_answers.specs.Asked as Q;
 
-use bench::{After, Answer, Bench};
+use bench::{After, Bench, CallError};
 use commands::Command;
+use console::Failed;
 use input::Input;
 use sequence::MOST_SOURCES;
 use soundness::NOTHING;
@@ -18,11 +21,10 @@ use words::Refusal;
 pub const MOST_TEXT_BYTES: usize = listing::MOST_BINDING_BYTES * sequence::MOST_MAPPING_WORDS
     + lines::MOST_LINE_BYTES;
 
-// The bench of a job's file, whether it was opened, and how many bytes of text were put.
+// The bench of a job's file, if it was opened, and how many bytes of text were put.
 #[derive(Clone, Copy)]
 pub struct Opened {
-    pub bench: Bench,
-    pub opened: bool,
+    pub bench: Option<Bench>,
     pub bytes: usize,
 }
 
@@ -34,62 +36,82 @@ pub struct Worked {
     pub words: usize,
 }
 
-// How many bytes of text an answer has, how many words of a mapping it wrote, and whether a call was done.
-#[derive(Clone, Copy)]
-struct Answered {
-    bytes: usize,
-    words: usize,
-    done: bool,
-}
-
-// The text of an answer, with what is said where it is done.
-fn put_answer(answer: Answer, done: &[u8], lent: &[u32], out: &mut [u8]) -> Answered
-    requires { Q.RoomFor answer done.now lent.now out.old }
-    ensures fits { result.bytes ≤ length out.old }
-    ensures text { S.PutsAnswer answer done.now lent.now out.old out.new result }
+// The text of a refusal.
+fn put_error(error: CallError, out: &mut [u8]) -> usize
+    requires { most_line_bytes ≤ length out.old }
+    ensures short { result ≤ most_line_bytes }
+    ensures text { P.Puts out.old 0 (S.error_text error) out.new result }
 {
-    match answer {
-        Answer::Done => Answered {
-            bytes: text::put(done, out, 0),
-            words: 0,
-            done: true,
-        },
-        Answer::Count(count) => Answered {
-            bytes: listing::glue_line(count, out, 0),
-            words: 0,
-            done: false,
-        },
-        Answer::Mapping(count) => Answered {
-            bytes: listing::put_mapping(&lent[..count], out),
-            words: count,
-            done: false,
-        },
-        Answer::Refused(refusal) => Answered {
-            bytes: lines::refused_line(refusal, out),
-            words: 0,
-            done: false,
-        },
-        Answer::Wrong(witness) => Answered {
-            bytes: lines::wrong_line(witness, out),
-            words: 0,
-            done: false,
-        },
+    match error {
+        CallError::Refused(refusal) => lines::refused_line(refusal, out),
+        CallError::Wrong(witness) => lines::wrong_line(witness, out),
     }
 }
 
-// What is said of a call.
-fn say(call: After, done: &[u8], lent: &[u32], out: &mut [u8]) -> Worked
-    requires { Q.RoomFor call.answer done.now lent.now out.old }
-    ensures fits { result.bytes ≤ length out.old }
-    ensures said { S.SaysCall call done.now lent.now out.old out.new result }
+// The text of an answer, with what is said where the call is done.
+fn put_done(answer: Result<(), CallError>, done: &[u8], out: &mut [u8]) -> usize
+    requires { Q.LineRoom done.now out.old }
+    ensures fits { result ≤ length out.old }
+    ensures text { P.Puts out.old 0 (S.answer_text (λ _. done.now) answer) out.new result }
 {
-    let answer = call.answer;
-    let said = put_answer(answer, done, lent, out);
+    match answer {
+        Ok(()) => text::put(done, out, 0),
+        Err(error) => put_error(error, out),
+    }
+}
+
+// The text of a price.
+fn put_count(answer: Result<u32, CallError>, out: &mut [u8]) -> usize
+    requires { Q.most_text_bytes ≤ length out.old }
+    ensures fits { result ≤ length out.old }
+    ensures text { P.Puts out.old 0 (S.answer_text L.glue_line answer) out.new result }
+{
+    match answer {
+        Ok(count) => listing::glue_line(count, out, 0),
+        Err(error) => put_error(error, out),
+    }
+}
+
+// The text of the mapping that a finish wrote into lent words.
+fn put_mapping(answer: Result<usize, CallError>, lent: &[u32], out: &mut [u8]) -> usize
+    requires { Q.MappingRoom answer lent.now out.old }
+    ensures fits { result ≤ length out.old }
+    ensures text { P.Puts out.old 0 (S.answer_text (S.written_text lent.now) answer) out.new result }
+{
+    match answer {
+        Ok(count) => listing::put_mapping(&lent[..count], out),
+        Err(error) => put_error(error, out),
+    }
+}
+
+// What is said of a bind or a release.
+fn say(call: After<()>, done: &[u8], out: &mut [u8]) -> Worked
+    requires { Q.LineRoom done.now out.old }
+    ensures fits { result.bytes ≤ length out.old }
+    ensures said { S.SaysCall call (λ _. done.now) 0 out.old out.new result }
+{
+    let bytes = put_done(call.answer, done, out);
     let bench = call.bench;
     Worked {
         bench,
-        bytes: said.bytes,
-        words: said.words,
+        bytes,
+        words: 0,
+    }
+}
+
+// What is said of a price.
+fn price(bench: Bench, out: &mut [u8]) -> Worked
+    requires { Q.most_text_bytes ≤ length out.old }
+    ensures fits { result.bytes ≤ length out.old }
+    ensures said { S.SaysCall (B.price_of bench) L.glue_line 0 out.old out.new result }
+{
+    let call = bench.price();
+    let bytes = put_count(call.answer, out);
+    let bench = call.bench;
+    Worked {
+        bench,
+        bytes,
+        words: 0,
     }
 }
 
@@ -163,6 +185,31 @@ fn show(bench: Bench, out: &mut [u8]) -> Worked
     }
 }
 
+// How many words of a mapping a finish wrote.
+fn words_of(answer: Result<usize, CallError>) -> usize
+    ensures { result ≡ S.words_finished answer }
+{
+    answer.unwrap_or(0)
+}
+
+// What is said of a finish. The mapping is written into lent words.
+fn finish(bench: Bench, lent: &mut [u32], out: &mut [u8]) -> Worked
+    requires { Q.Room lent.old out.old }
+    ensures fits { (result.bytes ≤ length out.old) × (result.words ≤ length lent.old) }
+    ensures said { S.SaysFinish bench lent.old lent.new out.old out.new result }
+{
+    let call = bench.finish(lent);
+    let answer = call.answer;
+    let bytes = put_mapping(answer, lent, out);
+    let words = words_of(answer);
+    let bench = call.bench;
+    Worked {
+        bench,
+        bytes,
+        words,
+    }
+}
+
 // What is said of a command. A mapping is written into lent words.
 fn obey(bench: Bench, command: Command, lent: &mut [u32], out: &mut [u8]) -> Worked
     requires { Q.Room lent.old out.old }
@@ -173,21 +220,15 @@ fn obey(bench: Bench, command: Command, lent: &mut [u32], out: &mut [u8]) -> Wor
         Command::Pass => say_text(bench, b"", out),
         Command::Bind(word) => {
             let call = bench.bind(word);
-            say(call, b"BOUND\n", lent, out)
+            say(call, b"BOUND\n", out)
         }
         Command::Release(function) => {
             let call = bench.release(function);
-            say(call, b"RELEASED\n", lent, out)
+            say(call, b"RELEASED\n", out)
         }
-        Command::Price => {
-            let call = bench.price();
-            say(call, b"", lent, out)
-        }
+        Command::Price => price(bench, out),
         Command::Show => show(bench, out),
-        Command::Finish => {
-            let call = bench.finish(lent);
-            say(call, b"", lent, out)
-        }
+        Command::Finish => finish(bench, lent, out),
     }
 }
 
@@ -204,41 +245,42 @@ pub fn work(bench: Bench, command: Option<Command>, lent: &mut [u32], out: &mut 
 }
 
 // The answer to a job's file: a last word cut short comes before all else.
-fn open_input(job: &[u32], input: Input) -> After
+fn open_input(job: &[u32], input: Input) -> After<()>
     ensures { result ≡ S.open_input job.now input }
 {
     if input.cut {
         return After {
             bench: bench::zeros(),
-            answer: Answer::Refused(Refusal {
+            answer: Err(CallError::Refused(Refusal {
                 number: 2,
                 place: input.whole,
-            }),
+            })),
         };
     }
     Bench::open(job)
 }
 
-// What is said of a job's file: the words that were kept of it, and what was read.
-pub fn open(job: &[u32], input: Input, out: &mut [u8]) -> Opened
+// What is said of a job's file: the words that were kept of it, and what was read, if it could be.
+pub fn open(job: &[u32], input: Result<Input, Failed>, out: &mut [u8]) -> Opened
     requires { Q.most_text_bytes ≤ length out.old }
     ensures fits { result.bytes ≤ length out.old }
-    ensures said { S.SaysInput input.failed job.now input out.old out.new result }
+    ensures said { S.SaysInput job.now input out.old out.new result }
 {
-    if input.failed {
+    let Ok(input) = input else {
         return Opened {
-            bench: bench::zeros(),
-            opened: false,
+            bench: None,
             bytes: 0,
         };
-    }
+    };
     let call = open_input(job, input);
-    let answer = call.answer;
-    let said = put_answer(answer, b"OPENED\n", &job[..0], out);
-    let bench = call.bench;
-    Opened {
-        bench,
-        opened: said.done,
-        bytes: said.bytes,
+    match call.answer {
+        Ok(()) => Opened {
+            bench: Some(call.bench),
+            bytes: text::put(b"OPENED\n", out, 0),
+        },
+        Err(error) => Opened {
+            bench: None,
+            bytes: put_error(error, out),
+        },
     }
 }

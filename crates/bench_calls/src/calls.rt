@@ -1,7 +1,7 @@
 // The bench's calls, on benches as the second account has them: 88 words. Here alone a bench and its answers are taken apart.
 use crate::files::{LENT, lent_holds};
 use accounts::sound::{BENCH_WORDS, BOUND, GLUE, NSOURCES, NTARGETS, TARGETS, WIDTH};
-use bench::{After, Bench};
+use bench::{After, Bench, CallError};
 use reference::answer::{Answer, Given, Subject, refused, wrong};
 use reference::trial::{Witness, bears_out};
 use soundness::Tables;
@@ -81,17 +81,15 @@ fn is_shown(rule: u32, n: u32, witness: words::Witness) -> bool {
 }
 
 // The answer to a call with a rule, 0 where it has none, on a bench of a width.
-fn of_answer(answer: bench::Answer, rule: u32, n: u32) -> Answer {
+fn answer_of(answer: Result<Given, CallError>, rule: u32, n: u32) -> Answer {
     match answer {
-        bench::Answer::Done => Ok(Given::Nothing),
-        bench::Answer::Count(count) => Ok(Given::Count(count as u64)),
-        bench::Answer::Mapping(size) => Ok(Given::Words(size)),
-        bench::Answer::Refused(refusal) => Err(refused(
+        Ok(given) => Ok(given),
+        Err(CallError::Refused(refusal)) => Err(refused(
             Subject::Word,
             refusal.number,
             refusal.place,
         )),
-        bench::Answer::Wrong(witness) => {
+        Err(CallError::Wrong(witness)) => {
             Err(wrong(Subject::Word, witness.function, is_shown(rule, n, witness)))
         }
     }
@@ -107,40 +105,45 @@ pub struct Told {
     pub printed: bool,
 }
 
-fn told_by(after: After, lent: &[u32], rule: u32) -> Told {
-    let answer = after.answer;
-    let bench = words_of(after.bench);
+fn told_by(bench: Bench, answer: Result<Given, CallError>, lent: &[u32], rule: u32) -> Told {
+    let bench = words_of(bench);
     Told {
-        answer: of_answer(answer, rule, bench[WIDTH]),
+        answer: answer_of(answer, rule, bench[WIDTH]),
         bench,
         untouched: lent_holds(lent, 0),
         printed: lent_holds(lent, 6),
     }
 }
 
+fn told_by_step(after: After<()>, rule: u32) -> Told {
+    let answer = after.answer.map(|()| Given::Nothing);
+    told_by(after.bench, answer, &[], rule)
+}
+
 pub fn open(job: &[u32]) -> Told {
-    told_by(Bench::open(job), &[], 0)
+    told_by_step(Bench::open(job), 0)
 }
 
 pub fn bind(words: [u32; BENCH_WORDS], rule: u32) -> Told {
     let bench = bench_of(words);
-    told_by(bench.bind(rule), &[], rule)
+    told_by_step(bench.bind(rule), rule)
 }
 
 pub fn release(words: [u32; BENCH_WORDS], function: u32) -> Told {
     let bench = bench_of(words);
-    told_by(bench.release(function), &[], 0)
+    told_by_step(bench.release(function), 0)
 }
 
 pub fn price(words: [u32; BENCH_WORDS]) -> Told {
-    let bench = bench_of(words);
-    told_by(bench.price(), &[], 0)
+    let after = bench_of(words).price();
+    let answer = after.answer.map(|count| Given::Count(count as u64));
+    told_by(after.bench, answer, &[], 0)
 }
 
 fn finish_into(words: [u32; BENCH_WORDS], lent: &mut [u32]) -> Told {
-    let bench = bench_of(words);
-    let after = bench.finish(lent);
-    told_by(after, lent, 0)
+    let after = bench_of(words).finish(lent);
+    let answer = after.answer.map(Given::Words);
+    told_by(after.bench, answer, lent, 0)
 }
 
 // Finishes into so many lent words, 32 at most.

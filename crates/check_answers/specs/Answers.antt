@@ -1,6 +1,6 @@
 -- What check_mapping says of what it read: "a last word cut short is 2 at its index", the job's before all else, the mapping's before the
 -- mapping's other refusals; "the checker's 1 to 6 also say which of the two is meant". A file that could not be read has no answer.
-use Rattle.std.specs.Prelude.{ℕ, Bool, true, false, List, [], if◌then◌else◌, Result, Ok, Err, ⊤}
+use Rattle.std.specs.Prelude.{ℕ, true, false, List, [], if◌then◌else◌, Result, Ok, Err, ⊤}
 use Rattle.words.specs.Paper.{refusal}
 use Rattle.text.specs.Text.{Puts, bytes}
 use Rattle.lines.specs.Lines.{refused_line, refused_file_line, wrong_line}
@@ -9,6 +9,7 @@ use Rattle.reader.specs.Job.{job_of}
 use Rattle.checker.specs.declared.CheckError.{CheckError}
 use Rattle.reader.specs.declared.Job.{Job}
 use Rattle.words.specs.declared.Refusal.{Refusal}
+use Rattle.console.specs.declared.Failed.{Failed}
 use Rattle.input.specs.declared.Input.{Input}
 use Rattle.checker.specs.Check.{CheckRuled, ruling_of}
 use Rattle.checker.specs.declared.CheckError.TheVariants.{JobRefused, MappingRefused, Refused, Wrong}
@@ -43,8 +44,8 @@ pub record SaysRuled (ruling : Ruling (Result ⊤ CheckError)) (out after : List
   pub ruled : CheckRuled ruling answer
   pub text : Puts out 0 (checked_text answer) after end
 
--- by whether the job's file failed, and whether the mapping's did: nothing is put
-abbrev pub SaysChecked : Bool → Bool → List ℕ → Input → List ℕ → Input → List ℕ → List ℕ → ℕ → Type 0
-SaysChecked true other job first mapping second out after end = Puts out 0 [] after end
-SaysChecked false true job first mapping second out after end = Puts out 0 [] after end
-SaysChecked false false job first mapping second out after end = SaysRuled (files_ruling job first mapping second) out after end
+-- by whether the job's file was read, and the mapping's: of a file that failed nothing is put
+abbrev pub SaysChecked : List ℕ → Result Input Failed → List ℕ → Result Input Failed → List ℕ → List ℕ → ℕ → Type 0
+SaysChecked job (Err e) mapping other out after end = Puts out 0 [] after end
+SaysChecked job (Ok first) mapping (Err e) out after end = Puts out 0 [] after end
+SaysChecked job (Ok first) mapping (Ok second) out after end = SaysRuled (files_ruling job first mapping second) out after end

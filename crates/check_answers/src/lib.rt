@@ -9,6 +9,7 @@ ghost use Rattle.checker.specs.Check as C;
 ghost use Rattle.check_answers.specs.Answers as S;
 
 use checker::CheckError;
+use console::Failed;
 use input::Input;
 use words::Refusal;
 
@@ -70,21 +71,18 @@ fn put_checked(checked: Result<(), CheckError>, out: &mut [u8]) -> usize
 // What check_mapping says of its two files; nothing, if one of them could not be read.
 pub fn check_inputs(
     job: &[u32],
-    first: Input,
+    first: Result<Input, Failed>,
     mapping: &[u32],
-    second: Input,
+    second: Result<Input, Failed>,
     out: &mut [u8],
 ) -> usize
     requires { L.most_line_bytes ≤ length out.old }
     ensures short { result ≤ L.most_line_bytes }
-    ensures said { S.SaysChecked first.failed second.failed job.now first mapping.now second out.old out.new result }
+    ensures said { S.SaysChecked job.now first mapping.now second out.old out.new result }
 {
-    if first.failed {
+    let (Ok(first), Ok(second)) = (first, second) else {
         return 0;
-    }
-    if second.failed {
-        return 0;
-    }
+    };
     let checked = check_files(job, first, mapping, second);
     put_checked(checked, out)
 }

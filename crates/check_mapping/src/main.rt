@@ -11,8 +11,8 @@ fn check(rt: &HostRuntime) {
     let mut mapping = [0u32; KEPT_WORDS];
     let first = input::read_file(rt, 1, &mut job);
     let second = input::read_file(rt, 2, &mut mapping);
-    let job_kept = first.kept;
-    let mapping_kept = second.kept;
+    let job_kept = input::kept(first);
+    let mapping_kept = input::kept(second);
     let mut out = [0u8; MOST_LINE_BYTES];
     let end = check_answers::check_inputs(
         &job[..job_kept],
@@ -24,29 +24,19 @@ fn check(rt: &HostRuntime) {
     console::print(rt, &out[..end]);
 }
 
-// How the program is called.
-const USAGE: [u8; 33] = *b"usage: check_mapping JOB MAPPING\n";
-
-fn help(rt: &HostRuntime) {
-    console::print(rt, &USAGE);
-    console::print(
-        rt,
+fn main(rt: HostRuntime) {
+    let run = arguments::may_run(
+        &rt,
+        3,
+        3,
+        b"usage: check_mapping JOB MAPPING\n",
         b"\n\
         Prints ACCEPTED, or the refusal of the mapping or of its job. The files hold words of four bytes, the lowest first, as\n\
         map_job writes them and pack_words makes them of text.\n\
         \n\
         example: map_job mapping < job && check_mapping job mapping\n",
     );
-}
-
-fn main(rt: HostRuntime) {
-    if arguments::asks_help(&rt) {
-        help(&rt);
-        return;
+    if run {
+        check(&rt);
     }
-    if arguments::count(&rt) != 3 {
-        arguments::usage(&rt, &USAGE);
-        return;
-    }
-    check(&rt);
 }

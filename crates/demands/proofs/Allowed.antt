@@ -1,13 +1,12 @@
 -- A bind that is accepted: when it is, what the bench is afterwards, and that two of them may change places.
-use mathlib.Core.Path.{◌≡◌, refl, sym, ap, ◌∙◌}
-use mathlib.Core.Bool.{true, false, not}
+use mathlib.Core.Path.{◌≡◌, refl, sym, ap, subst, ◌∙◌}
+use mathlib.Core.Bool.{true, not, false≢true}
 use mathlib.Core.List.{[]}
 use Prim.Native.Nat.{ℕ, ◌<◌}
 use native.Mathlib.Omega.{arith}
-use lib.Dec.{eqb}
 use lib.ListN.{length, get_or, set, length-take}
 use lib.Seq.{get_or-set_same, get_or-set_other, set_comm}
-use borrow.Author.Tests.{eq-eqb, eqb-true, eqb-false, not-true, not-false}
+use borrow.Author.Tests.{eq-eqb, not-false}
 use Rattle.words.specs.Paper.{Paper, accepted}
 use Rattle.words.proofs.Choices.{either}
 use Rattle.recipe.specs.Fields.{source_of}
@@ -15,15 +14,19 @@ use Rattle.binding.specs.Right.{is_right}
 use Rattle.binding.specs.declared.Claim.{Claim}
 use Rattle.verdict.specs.Verdicts.{Ruling, Gives}
 use Rattle.sequence.specs.Limits.{most_sources}
-use Rattle.soundness.specs.Sound.{rule_fault}
+use Rattle.soundness.specs.Sound.{sources_on, rule_fault}
 use Rattle.soundness.proofs.Soundness.{sound_sources}
-use Rattle.entries.specs.Entries.{is_bound}
-use Rattle.bench.specs.Calls.{sound_bench, holding, gives, entry_for, has_binding, bound_at, bind_fault, claim_on, bind_of, WrongAt, BindRuled, Binds, paper_of}
+use Rattle.entries.proofs.Searching.{nothing_there, not_bound}
+use Rattle.bench.specs.Calls.{sound_bench, holding, gives, bind_check, bind_for, claim_on, bind_of, WrongAt, BindRuled, Binds, paper_of}
 use Rattle.bench.specs.declared.Bench.{Bench}
-use Rattle.bench.specs.declared.Answer.{Answer}
-use Rattle.bench.specs.declared.Answer.TheVariants.{Done, Count, Mapping, Refused, Wrong}
+use Rattle.bench.specs.declared.CallError.{CallError}
+use Rattle.bench.specs.declared.CallError.TheVariants.{Refused, Wrong}
+use Rattle.std.specs.Prelude.{Result, Ok, Err, ⊤}
+use Rattle.words.specs.declared.Refusal.{Refusal}
+use Rattle.demands.specs.Answers.{among, bind_numbers}
+use Rattle.demands.proofs.Numbered.{check_refused}
 use Rattle.bench.specs.declared.After.{After}
-use Rattle.bench.proofs.Binds.{Checked, checked, tables_entry}
+use Rattle.bench.proofs.Binds.{Checked, checked, place_for, at_place, tables_entry}
 use Rattle.demands.proofs.Keeping.{bound_sound_lem}
 
 -- no refusal of bind holds
@@ -33,47 +36,52 @@ pub record Allowed (b : Bench) (w : ℕ) : Type 0 where
 
 -- the bench after a word is bound
 abbrev pub bound_on : Bench → ℕ → Bench
-bound_on b w = bound_at b (entry_for b (source_of w)) w
+bound_on b w = holding b (set b.bound (place_for b (source_of w)) w)
 
 -- ---- the answer
 
-no_fault : (b : Bench) (w : ℕ) → Checked b w → bind_fault b w ≡ 0
-unfolding bind_fault
-no_fault b w c = rw c.sound (rw (eq-eqb (rule_fault w) 0 c.a_rule) (rw c.there (rw c.free refl)))
+passes : (b : Bench) (w : ℕ) → Checked b w → bind_check b w ≡ Ok tt
+unfolding bind_check
+passes b w c = rw c.sound (rw (eq-eqb (rule_fault w) 0 c.a_rule) (rw c.there (rw c.free refl)))
 
-pub allowed_gives : (b : Bench) (w : ℕ) → Allowed b w → bind_of b w ≡ Gives (gives (bound_on b w) Done)
+pub allowed_gives : (b : Bench) (w : ℕ) → Allowed b w → bind_of b w ≡ Gives (gives (bound_on b w) (Ok tt))
 unfolding bind_of
-allowed_gives b w a = rw (eq-eqb (bind_fault b w) 0 (no_fault b w a.unrefused)) (rw a.right refl)
+allowed_gives b w a =
+    rw (passes b w a.unrefused)
+    (rw a.right (ap (λ (x : Bench). Gives (gives x (Ok tt))) (at_place b (source_of w) w (tables_entry b w a.unrefused.there))))
 
 -- the answer's paper tells which it was; refused, the bench is as it was
-pub data Outcome (b : Bench) (w : ℕ) (r : After) : Type 0 where
-  Bound : Allowed b w → r ≡ gives (bound_on b w) Done → Outcome b w r
+pub data Outcome (b : Bench) (w : ℕ) (r : After ⊤) : Type 0 where
+  Bound : Allowed b w → r ≡ gives (bound_on b w) (Ok tt) → Outcome b w r
   Unchanged : (paper_of r.answer ≡ accepted [] → ⊥) → r.bench ≡ b → Outcome b w r
 
-wrong_paper_lem : (c : Claim) (n : ℕ) (a : Answer) → WrongAt c n a → paper_of a ≡ accepted [] → ⊥
-wrong_paper_lem c n Done h e = h
-wrong_paper_lem c n (Count k) h e = h
-wrong_paper_lem c n (Mapping k) h e = h
-wrong_paper_lem c n (Refused r) h e = h
-wrong_paper_lem c n (Wrong v) h e = let z : ◌≡◌ {A = ℕ} 10 0 = ap (λ (p : Paper). p.number) e in omega arith
+-- 0 is no number of a refused bind
+listed_some : (n : ℕ) → among bind_numbers n ≡ true → n ≡ 0 → ⊥
+listed_some n h e = false≢true (subst (λ (x : ℕ). among bind_numbers x ≡ true) e h)
 
-pub outcome : (b : Bench) (w : ℕ) (r : After) → Binds b w r → Outcome b w r
+wrong_paper_lem : (c : Claim) (n : ℕ) (a : Result ⊤ CallError) → WrongAt c n a → paper_of a ≡ accepted [] → ⊥
+wrong_paper_lem c n (Ok tt) h e = h
+wrong_paper_lem c n (Err (Refused r)) h e = h
+wrong_paper_lem c n (Err (Wrong v)) h e = let z : ◌≡◌ {A = ℕ} 10 0 = ap (λ (p : Paper). p.number) e in omega arith
+
+pub outcome : (b : Bench) (w : ℕ) (r : After ⊤) → Binds b w r → Outcome b w r
 unfolding bind_of
-outcome b w r =
-    let P : Ruling After → Type 0 = λ x. BindRuled b x r → Outcome b w r in
-    either P (not (eqb (bind_fault b w) 0))
-    (λ f e. Unchanged
-    (λ p. eqb-false (bind_fault b w) 0 (not-true (eqb (bind_fault b w) 0) f)
-    (sym (ap (λ (x : After). (paper_of x.answer).number) e) ∙ ap (λ (x : Paper). x.number) p))
-    (ap (λ (x : After). x.bench) e))
-    (λ f. either P (not (is_right (claim_on b w) b.tables.width))
-    (λ _ e. Unchanged (wrong_paper_lem (claim_on b w) b.tables.width r.answer e.1) e.0)
-    (λ right e. Bound
-    (record {
-      unrefused = checked b w (eqb-true (bind_fault b w) 0 (not-false (eqb (bind_fault b w) 0) f));
-      right = not-false (is_right (claim_on b w) b.tables.width) right;
-    })
-    e))
+outcome b w r a = go (bind_check b w) refl a
+  where
+    go : (x : Result ⊤ Refusal) → bind_check b w ≡ x → BindRuled b (bind_for b w x) r → Outcome b w r
+    go (Err x) f =
+        λ e.
+        Unchanged
+        (λ p. listed_some x.number (check_refused b w x f)
+        (sym (ap (λ (x : After ⊤). (paper_of x.answer).number) e) ∙ ap (λ (x : Paper). x.number) p))
+        (ap (λ (x : After ⊤). x.bench) e)
+    go (Ok tt) f =
+        let c = checked b w f in
+        either (λ (x : Ruling (After ⊤)). BindRuled b x r → Outcome b w r) (not (is_right (claim_on b w) b.tables.width))
+        (λ _ e. Unchanged (wrong_paper_lem (claim_on b w) b.tables.width r.answer e.1) e.0)
+        (λ right e. Bound
+        (record { unrefused = c; right = not-false (is_right (claim_on b w) b.tables.width) right })
+        (e ∙ ap (λ (x : Bench). gives x (Ok tt)) (at_place b (source_of w) w (tables_entry b w c.there))))
 
 -- ---- two binds change places
 
@@ -81,19 +89,14 @@ pub rule_some : (w : ℕ) → rule_fault w ≡ 0 → w ≡ 0 → ⊥
 unfolding rule_fault
 rule_some w h e = let z : rule_fault 0 ≡ 0 = ap rule_fault (sym e) ∙ h in omega arith
 
-pub nothing-there : (b : Bench) (f : ℕ) → has_binding b f ≡ false → get_or b.bound (entry_for b f) 0 ≡ 0
-unfolding is_bound
-nothing-there b f h = eqb-true (get_or b.bound (entry_for b f) 0) 0 (not-false (eqb (get_or b.bound (entry_for b f) 0) 0) h)
-
-pub not_bound : (b : Bench) (f : ℕ) → get_or b.bound (entry_for b f) 0 ≡ 0 → has_binding b f ≡ false
-unfolding is_bound
-not_bound b f h = rw (eq-eqb (get_or b.bound (entry_for b f) 0) 0 h) refl
+pub nothing-there : (b : Bench) (w : ℕ) → Checked b w → get_or b.bound (place_for b (source_of w)) 0 ≡ 0
+nothing-there b w c = nothing_there (sources_on b.tables) (source_of w) b.bound (tables_entry b w c.there) c.free
 
 pub allowed_sound : (b : Bench) (w : ℕ) → Allowed b w → sound_bench (bound_on b w) ≡ true
 allowed_sound b w a = bound_sound_lem b w a.unrefused a.right
 
 module _ (b : Bench) (n : length b.bound ≡ most_sources) (x y : ℕ) (a : Allowed b x) (c : Allowed (bound_on b x) y) where
-  within : entry_for b (source_of x) < length b.bound
+  within : place_for b (source_of x) < length b.bound
   within =
       omega (
         arith,
@@ -102,15 +105,15 @@ module _ (b : Bench) (n : length b.bound ≡ most_sources) (x y : ℕ) (a : Allo
         sound_sources b.tables b.bound b.glue a.unrefused.sound,
       )
 
-  there_empty : get_or (set b.bound (entry_for b (source_of x)) x) (entry_for b (source_of y)) 0 ≡ 0
-  there_empty = nothing-there (bound_on b x) (source_of y) c.unrefused.free
+  there_empty : get_or (set b.bound (place_for b (source_of x)) x) (place_for b (source_of y)) 0 ≡ 0
+  there_empty = nothing-there (bound_on b x) y c.unrefused
 
   -- the second would find the first in its entry
-  apart : entry_for b (source_of y) ≡ entry_for b (source_of x) → ⊥
+  apart : place_for b (source_of y) ≡ place_for b (source_of x) → ⊥
   apart e =
       rule_some x a.unrefused.a_rule
-      (sym (get_or-set_same b.bound (entry_for b (source_of x)) x 0 within)
-      ∙ ap (λ (i : ℕ). get_or (set b.bound (entry_for b (source_of x)) x) i 0) (sym e)
+      (sym (get_or-set_same b.bound (place_for b (source_of x)) x 0 within)
+      ∙ ap (λ (i : ℕ). get_or (set b.bound (place_for b (source_of x)) x) i 0) (sym e)
       ∙ there_empty)
 
   pub second_first : Allowed b y
@@ -120,7 +123,7 @@ module _ (b : Bench) (n : length b.bound ≡ most_sources) (x y : ℕ) (a : Allo
           sound = a.unrefused.sound;
           a_rule = c.unrefused.a_rule;
           there = c.unrefused.there;
-          free = not_bound b (source_of y) (sym (get_or-set_other b.bound (entry_for b (source_of x)) (entry_for b (source_of y)) x 0 apart) ∙ there_empty);
+          free = not_bound (sources_on b.tables) (source_of y) b.bound (sym (get_or-set_other b.bound (place_for b (source_of x)) (place_for b (source_of y)) x 0 apart) ∙ there_empty);
         };
         right = c.right;
       }
@@ -133,13 +136,13 @@ module _ (b : Bench) (n : length b.bound ≡ most_sources) (x y : ℕ) (a : Allo
           a_rule = a.unrefused.a_rule;
           there = a.unrefused.there;
           free =
-              not_bound (bound_on b y) (source_of x)
-              (get_or-set_other b.bound (entry_for b (source_of y)) (entry_for b (source_of x)) y 0 (λ e. apart (sym e))
-              ∙ nothing-there b (source_of x) a.unrefused.free);
+              not_bound (sources_on b.tables) (source_of x) (bound_on b y).bound
+              (get_or-set_other b.bound (place_for b (source_of y)) (place_for b (source_of x)) y 0 (λ e. apart (sym e))
+              ∙ nothing-there b x a.unrefused);
         };
         right = a.right;
       }
 
   pub same_bench : bound_on (bound_on b x) y ≡ bound_on (bound_on b y) x
   same_bench =
-      ap (holding b) (set_comm b.bound (entry_for b (source_of x)) (entry_for b (source_of y)) x y (λ e. apart (sym e)))
+      ap (holding b) (set_comm b.bound (place_for b (source_of x)) (place_for b (source_of y)) x y (λ e. apart (sym e)))

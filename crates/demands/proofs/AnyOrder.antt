@@ -3,9 +3,9 @@
 use mathlib.Core.Path.{◌≡◌, refl, sym, ap, ap₂, subst, ◌∙◌}
 use mathlib.Core.Bool.{true}
 use mathlib.Core.List.{List, [], ◌∷◌, ◌++◌, append-nil, append_assoc, Permᴰ}
-use Prim.Native.Nat.{ℕ, zero, suc, ◌+◌, ◌-◌, ◌<◌}
-use native.Mathlib.Numerals.{add-one}
+use Prim.Native.Nat.{ℕ, suc, ◌+◌, ◌-◌, ◌<◌}
 use native.Mathlib.Omega.{arith}
+use lib.Dec.{eqb}
 use lib.ListN.{length, get_or, set, replicate, length-append, length-set}
 use lib.Seq.{get_or-append_seam, set-append_seam}
 use borrow.Author.Tests.{eq-eqb, ne_eqb}
@@ -19,15 +19,16 @@ use Rattle.wellformed.proofs.JobWords.{JobFacts, well_formed}
 use Rattle.table.specs.Parts.{sources_of}
 use Rattle.table.specs.Table.{lists_source, has_target}
 use Rattle.table.proofs.Entries.{in_job-when}
-use Rattle.std.specs.Prelude.{Ok}
+use Rattle.std.specs.Prelude.{Ok, ⊤}
 use Rattle.mapper.specs.Mapping.{choice_of}
 use Rattle.soundness.specs.Sound.{sources_on, targets_on, rule_fault}
 use Rattle.soundness.proofs.Soundness.{a_rule}
 use Rattle.opening.specs.Opening.{table_of, tables_in}
-use Rattle.bench.specs.Calls.{sound_bench, holding, gives, opened, entry_for, bound_at, BindRuled}
-use Rattle.entries.specs.Entries.{entry_of}
+use Rattle.bench.specs.Calls.{sound_bench, holding, gives, opened, BindRuled}
+use Rattle.entries.proofs.Searching.{place_of, not_bound}
+use Rattle.bench.proofs.Binds.{place_for}
+use Rattle.std.proofs.lemmas.List.Sums.{position_or_len_is}
 use Rattle.bench.specs.declared.Bench.{Bench}
-use Rattle.bench.specs.declared.Answer.TheVariants.{Done}
 use Rattle.bench.specs.declared.After.{After}
 use Rattle.demands.specs.Benches.{BenchOf, BindsAll}
 use Rattle.demands.proofs.Parts.{source_at_lem}
@@ -36,7 +37,7 @@ use Rattle.demands.proofs.Chosen.{one_each, chosen_rule, chosen_bindable}
 use Rattle.demands.proofs.Accepted.{source_listed}
 use Rattle.demands.proofs.Sources.{sources_rise}
 use Rattle.demands.proofs.OpenedSound.{source_count}
-use Rattle.demands.proofs.Allowed.{Allowed, Outcome, Bound, Unchanged, outcome, bound_on, allowed_gives, allowed_sound, not_bound, second_first, first_second, same_bench}
+use Rattle.demands.proofs.Allowed.{Allowed, Outcome, Bound, Unchanged, outcome, bound_on, allowed_gives, allowed_sound, second_first, first_second, same_bench}
 use Rattle.demands.proofs.Benches.{bound_of_job, opened_of_job, same_sources, same_targets}
 
 -- ---- the same, said of the bench: no refusal holds at any of them
@@ -50,15 +51,15 @@ runs [] b end q = q
 runs (w ∷ ws) b end q = go (outcome b w q.0 q.1.0) (runs ws q.0.bench end q.1.1.1)
   where
     go : Outcome b w q.0 → Runs q.0.bench ws end → Runs b (w ∷ ws) end
-    go (Bound a e) rest = (a, subst (λ (x : After). Runs x.bench ws end) e rest)
+    go (Bound a e) rest = (a, subst (λ (x : After ⊤). Runs x.bench ws end) e rest)
     go (Unchanged refused _) rest = absurd (refused q.1.1.0)
 
 binds_all : (ws : List ℕ) (b end : Bench) → Runs b ws end → BindsAll b ws end
 binds_all [] b end q = q
 binds_all (w ∷ ws) b end q = (
-  gives (bound_on b w) Done,
+  gives (bound_on b w) (Ok tt),
   (
-    subst (λ (x : Ruling After). BindRuled b x (gives (bound_on b w) Done)) (sym (allowed_gives b w q.0)) refl,
+    subst (λ (x : Ruling (After ⊤)). BindRuled b x (gives (bound_on b w) (Ok tt))) (sym (allowed_gives b w q.0)) refl,
     (refl, binds_all ws (bound_on b w) end q.1),
   ),
 )
@@ -111,14 +112,12 @@ module _ (xs : List ℕ) (h : length xs < most_sources) where
 
 -- ---- the entry of a source
 
-pub entry_of_lem : (ss : List ℕ) (k : ℕ) → k < length ss → ((i : ℕ) → i < k → source_function (get_or ss i 0) ≡ source_function (get_or ss k 0) → ⊥)
-    → entry_of ss (source_function (get_or ss k 0)) ≡ k
-unfolding entry_of
-entry_of_lem [] k h apart = absurd (omega arith)
-entry_of_lem (s ∷ ss) zero h apart = rw (eq-eqb (source_function s) (source_function s) refl) refl
-entry_of_lem (s ∷ ss) (suc k) h apart =
-    rw (ne_eqb (source_function s) (source_function (get_or ss k 0)) (apart 0 (omega arith)))
-    (add-one (entry_of ss (source_function (get_or ss k 0))) ∙ ap suc (entry_of_lem ss k (omega arith) (λ i l. apart (suc i) (omega arith))))
+pub place_of_lem : (ss : List ℕ) (k : ℕ) → k < length ss → ((i : ℕ) → i < k → source_function (get_or ss i 0) ≡ source_function (get_or ss k 0) → ⊥)
+    → place_of ss (source_function (get_or ss k 0)) ≡ k
+place_of_lem ss k h apart =
+    position_or_len_is (λ s. eqb (source_function s) (source_function (get_or ss k 0))) ss k 0 (omega arith)
+    (λ i l. ne_eqb (source_function (get_or ss i 0)) (source_function (get_or ss k 0)) (apart i l))
+    (λ _. eq-eqb (source_function (get_or ss k 0)) (source_function (get_or ss k 0)) refl)
 
 -- ---- the choice
 
@@ -147,10 +146,10 @@ module _ (ws : List ℕ) (job : Job) (e : WellFormedJob ws job) (bound : List �
         source_at_lem ws job k (omega (arith, size)),
       )
 
-  its_entry : (k : ℕ) → k < length bound → entry_for (opened ws job) (source_of (get_or bound k 0)) ≡ k
+  its_entry : (k : ℕ) → k < length bound → place_for (opened ws job) (source_of (get_or bound k 0)) ≡ k
   its_entry k h =
-      ap₂ entry_of (same_sources ws job e) (its_source k h)
-      ∙ entry_of_lem (sources_of ws job) k (omega (arith, size, source_count ws job e)) (sources_apart k h)
+      ap₂ place_of (same_sources ws job e) (its_source k h)
+      ∙ place_of_lem (sources_of ws job) k (omega (arith, size, source_count ws job e)) (sources_apart k h)
 
   pub is_rule : (k : ℕ) → k < length bound → rule_fault (get_or bound k 0) ≡ 0
   is_rule k h =
@@ -171,7 +170,7 @@ module _ (ws : List ℕ) (job : Job) (e : WellFormedJob ws job) (bound : List �
               in_job-when (sources_on (tables_in ws job)) (targets_on (tables_in ws job)) w
               (ap (λ (l : List ℕ). lists_source l (source_of w)) (same_sources ws job e) ∙ source_listed ws job e bound choice k h)
               (ap (λ (l : List ℕ). has_target l w) (same_targets ws job e) ∙ choice.target_there k h);
-          free = not_bound b (source_of w) (ap (λ (i : ℕ). get_or held i 0) (its_entry k h) ∙ free);
+          free = not_bound (sources_on b.tables) (source_of w) held (ap (λ (i : ℕ). get_or held i 0) (its_entry k h) ∙ free);
         };
         right = choice.is_right_lem k h;
       }
@@ -186,10 +185,10 @@ module _ (ws : List ℕ) (job : Job) (e : WellFormedJob ws job) (bound : List �
       let n : k + suc (length ys) ≡ length bound = sym (length-append xs (y ∷ ys)) ∙ ap length p in
       let few : k < most_sources = omega (arith, size, facts.sources_most) in
       let word : get_or bound k 0 ≡ y = ap (λ (l : List ℕ). get_or l k 0) (sym p) ∙ get_or-append_seam xs y ys 0 in
-      let entry : entry_for b (source_of y) ≡ k = ap (λ (x : ℕ). entry_for b (source_of x)) (sym word) ∙ its_entry k (omega arith) in
+      let entry : place_for b (source_of y) ≡ k = ap (λ (x : ℕ). place_for b (source_of x)) (sym word) ∙ its_entry k (omega arith) in
       let allowed : Allowed b y = subst (Allowed b) word (choice_allowed (table_of most_sources xs) s k (omega arith) (next_empty xs few)) in
       let after : bound_on b y ≡ holding (opened ws job) (table_of most_sources (xs ++ y ∷ [])) =
-      ap (λ (i : ℕ). bound_at b i y) entry ∙ ap (holding (opened ws job)) (next_filled xs few y) in
+      ap (λ (i : ℕ). holding b (set b.bound i y)) entry ∙ ap (holding (opened ws job)) (next_filled xs few y) in
       let rest = in_order (xs ++ y ∷ []) ys (append_assoc xs (y ∷ []) ys ∙ p) (ap sound_bench (sym after) ∙ allowed_sound b y allowed) in
       (allowed, subst (λ (x : Bench). Runs x ys (holding (opened ws job) (table_of most_sources bound))) (sym after) rest)
 

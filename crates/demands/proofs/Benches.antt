@@ -9,7 +9,7 @@ use Rattle.words.specs.Field.{source_function}
 use Rattle.sequence.specs.Limits.{most_sources, most_targets}
 use Rattle.reader.specs.Job.{WellFormedJob}
 use Rattle.reader.specs.declared.Job.{Job}
-use Rattle.std.specs.Prelude.{Result}
+use Rattle.std.specs.Prelude.{None, Result, ⊤}
 use Rattle.words.specs.declared.Refusal.{Refusal}
 use Rattle.wellformed.proofs.JobWords.{JobFacts, well_formed}
 use Rattle.table.specs.Parts.{sources_of, targets_of}
@@ -40,7 +40,7 @@ module _ (ws : List ℕ) (job : Job) where
 
   released_of_job : (b : Bench) (f : ℕ) → BenchOf ws job b → Release b f → BenchOf ws job (release_of b f).bench
   released_of_job b f o (Released s u e) =
-      subst (λ (x : After). BenchOf ws job x.bench) (sym e)
+      subst (λ (x : After ⊤). BenchOf ws job x.bench) (sym e)
       (record {
         as_opened = ap (λ (x : Bench). holding x (released_on b f).bound) o.as_opened;
         entries = length-set b.bound _ 0 ∙ o.entries;
@@ -48,9 +48,9 @@ module _ (ws : List ℕ) (job : Job) where
       })
   released_of_job b f o (Kept _ e) = subst (BenchOf ws job) (sym e) o
 
-  after-bind : (b : Bench) (w : ℕ) (r : After) → BenchOf ws job b → sound_bench r.bench ≡ true → Outcome b w r → BenchOf ws job r.bench
+  after-bind : (b : Bench) (w : ℕ) (r : After ⊤) → BenchOf ws job b → sound_bench r.bench ≡ true → Outcome b w r → BenchOf ws job r.bench
   after-bind b w r o s (Bound a e) =
-      let q : r.bench ≡ bound_on b w = ap (λ (x : After). x.bench) e in
+      let q : r.bench ≡ bound_on b w = ap (λ (x : After ⊤). x.bench) e in
       subst (BenchOf ws job) (sym q) (bound_of_job b w o (ap sound_bench (sym q) ∙ s))
   after-bind b w r o s (Unchanged _ q) = subst (BenchOf ws job) (sym q) o
 
@@ -106,13 +106,13 @@ module _ (ws : List ℕ) (job : Job) (e : WellFormedJob ws job) where
       }
 
   -- what is bound, where every source is, is one usable rule for each source
-  pub all_bindable : (b : Bench) → BenchOf ws job b → unbound_on b ≡ 0 → Bindable ws job (bindings_on b)
+  pub all_bindable : (b : Bench) → BenchOf ws job b → unbound_on b ≡ None → Bindable ws job (bindings_on b)
   all_bindable b o u =
       subst (λ (x : Bench). Bindable ws job (bindings_on x)) (sym o.as_opened)
       (bindable b.bound o.entries (ap sound_bench (sym o.as_opened) ∙ o.sound) (ap unbound_on (sym o.as_opened) ∙ u))
     where
       bindable : (bound : List ℕ) → length bound ≡ most_sources → sound_bench (holding (opened ws job) bound) ≡ true
-          → unbound_on (holding (opened ws job) bound) ≡ 0 → Bindable ws job (bindings_on (holding (opened ws job) bound))
+          → unbound_on (holding (opened ws job) bound) ≡ None → Bindable ws job (bindings_on (holding (opened ws job) bound))
       bindable bound n s u =
           let b = holding (opened ws job) bound in
           let one = binding_number b (shaped bound n) s u in

@@ -18,9 +18,9 @@ use Rattle.binding.specs.Right.{Right, is_right}
 use Rattle.binding.specs.declared.Claim.{Claim}
 use Rattle.binding.proofs.Tests.{right_test}
 use Rattle.verdict.specs.Verdicts.{Differs, Ruling, Gives, Names}
-use Rattle.reader.specs.Job.{job_of, WellFormedJob}
+use Rattle.reader.specs.Job.{WellFormedJob}
 use Rattle.reader.specs.Starts.{sources_start, bindings_start}
-use Rattle.reader.specs.Mapping.{mapping_of, WellFormedMapping}
+use Rattle.reader.specs.Mapping.{WellFormedMapping}
 use Rattle.reader.specs.declared.Job.{Job}
 use Rattle.reader.specs.declared.Mapping.{Mapping}
 use Rattle.wellformed.proofs.JobWords as jobs

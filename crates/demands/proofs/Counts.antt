@@ -9,14 +9,14 @@ use Prim.Native.Nat.{ℕ}
 use Rattle.words.specs.Paper.{accepted}
 use Rattle.sequence.specs.Limits.{most_sources}
 use Rattle.reader.specs.Job.{job_of}
-use Rattle.std.specs.Prelude.{Result, Ok, Err}
+use Rattle.std.specs.Prelude.{Result, Ok, Err, ⊤}
 use Rattle.reader.specs.declared.Job.{Job}
 use Rattle.words.specs.declared.Refusal.{Refusal}
 use Rattle.glue.specs.Glue.{glue}
 use Rattle.soundness.specs.Sound.{glue_on}
 use Rattle.soundness.proofs.Soundness.{sound_holds}
 use Rattle.opening.specs.Opening.{tables_in, tables_of_zeros}
-use Rattle.bench.specs.Calls.{sound_bench, bindings_on, open_of, open_for, bind_fault, bind_of, release_of, price_of, finish_of, paper_of}
+use Rattle.bench.specs.Calls.{sound_bench, bindings_on, open_of, open_for, bind_check, bind_of, release_of, price_of, finish_of, paper_of, number_paper_of}
 use Rattle.bench.specs.declared.Bench.{Bench}
 use Rattle.bench.specs.declared.After.{After}
 use Rattle.demands.specs.Benches.{Reached, opening, binding, releasing, pricing, finishing, RefusesAll}
@@ -34,12 +34,12 @@ opened_true : (ws : List ℕ) (r : Result Job Refusal) → CountIsTrue (open_for
 opened_true ws (Err r) = sym (zeros-count tables_of_zeros most_sources)
 opened_true ws (Ok job) = sym (zeros-count (tables_in ws job) most_sources)
 
-bound_true : (b : Bench) (w : ℕ) (r : After) → CountIsTrue b → Outcome b w r → CountIsTrue r.bench
-bound_true b w r t (Bound _ e) = subst (λ (x : After). CountIsTrue x.bench) (sym e) refl
+bound_true : (b : Bench) (w : ℕ) (r : After ⊤) → CountIsTrue b → Outcome b w r → CountIsTrue r.bench
+bound_true b w r t (Bound _ e) = subst (λ (x : After ⊤). CountIsTrue x.bench) (sym e) refl
 bound_true b w r t (Unchanged _ e) = subst CountIsTrue (sym e) t
 
 released_true : (b : Bench) (f : ℕ) → CountIsTrue b → Release b f → CountIsTrue (release_of b f).bench
-released_true b f t (Released _ _ e) = subst (λ (x : After). CountIsTrue x.bench) (sym e) refl
+released_true b f t (Released _ _ e) = subst (λ (x : After ⊤). CountIsTrue x.bench) (sym e) refl
 released_true b f t (Kept _ e) = subst CountIsTrue (sym e) t
 
 reached_true : (ws : List ℕ) (b : Bench) → Reached ws b → CountIsTrue b
@@ -62,10 +62,10 @@ unfolding glue_on
 sound_count_is_true b s = (sound_holds b.tables b.bound b.glue s).count
 
 unsound_refuses : (b : Bench) → sound_bench b ≡ false → RefusesAll b
-unfolding bind_of bind_fault release_of price_of finish_of
+unfolding bind_of bind_check release_of price_of finish_of
 unsound_refuses b s =
     record {
-      binds = λ w r answer. ap (λ (x : After). paper_of x.answer) (rw s at answer);
+      binds = λ w r answer. ap (λ (x : After ⊤). paper_of x.answer) (rw s at answer);
       releases = λ f. rw s refl;
       prices = rw s refl;
       finishes = λ lent. rw s refl;
@@ -81,6 +81,6 @@ other_count_is_refused b other = by_soundness (sound_bench b) refl
 
 -- ---- "Price and finish use the stored one."
 
-pub price_is_the_stored_count : (b : Bench) → sound_bench b ≡ true → paper_of (price_of b).answer ≡ accepted (b.glue ∷ [])
+pub price_is_the_stored_count : (b : Bench) → sound_bench b ≡ true → number_paper_of (price_of b).answer ≡ accepted (b.glue ∷ [])
 unfolding price_of
 price_is_the_stored_count b s = rw s refl

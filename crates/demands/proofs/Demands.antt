@@ -13,7 +13,7 @@ use Rattle.binding.specs.declared.Claim.{Claim}
 use Rattle.verdict.specs.Verdicts.{Says, verdict_paper, Ruling, Judged, judgement_paper}
 use Rattle.verdict.specs.declared.Verdict.{Verdict}
 use Rattle.verdict.specs.declared.Verdict.TheVariants.{Right as IsRight, Wrong}
-use Rattle.std.specs.Prelude.{Result, ⊤, Ok}
+use Rattle.std.specs.Prelude.{None, Result, ⊤, Ok}
 use Rattle.checker.specs.declared.CheckError.{CheckError}
 use Rattle.words.specs.declared.Refusal.{Refusal}
 use Rattle.verdict.proofs.Verdicting.{not_right}
@@ -127,15 +127,15 @@ module _ (ws : List ℕ) (job : Job) (e : WellFormedJob ws job) where
   every-bench_is_sound b q = reached_of_job ws job e b q
 
   -- a sound bench with every source bound finishes, and what it writes is accepted with the job it was opened from
-  pub sound_bench-finishes : (b : Bench) → BenchOf ws job b → unbound_on b ≡ 0 → (lent : List ℕ) → words_needed job.sources ≤ length lent
+  pub sound_bench-finishes : (b : Bench) → BenchOf ws job b → unbound_on b ≡ None → (lent : List ℕ) → words_needed job.sources ≤ length lent
       → Finishes ws job b lent
   sound_bench-finishes b o u lent h =
       let n : b.tables.nsources ≡ job.sources = ap (λ (x : Bench). x.tables.nsources) o.as_opened in
       let f = finishes b (bench_shaped ws job e b o) o.sound u lent (omega arith) in
       record {
         answer =
-            ap (λ (x : After). bench.paper_of x.answer) f.answer ∙ ap (λ (x : ℕ). accepted (words_needed x ∷ [])) n;
-        bench_after = ap (λ (x : After). x.bench) f.answer;
+            ap (λ (x : After ℕ). bench.number_paper_of x.answer) f.answer ∙ ap (λ (x : ℕ). accepted (words_needed x ∷ [])) n;
+        bench_after = ap (λ (x : After ℕ). x.bench) f.answer;
         lent_after = f.words ∙ ap (λ (x : ℕ). mapping_on b ++ drop (words_needed x) lent) n;
         accepted_with_job = λ r answer. (accepted_exactly ws (mapping_on b) r answer).1 (bound_rightly_mapped ws job e b o u);
       }
@@ -144,14 +144,14 @@ module _ (ws : List ℕ) (job : Job) (e : WellFormedJob ws job) where
   module _ (bound : List ℕ) (choice : choice_of ws job ≡ Ok bound) where
     -- a chosen rule can be bound as long as its source is not,
     pub choice_can_be_bound : (b : Bench) → BenchOf ws job b → (k : ℕ) → k < length bound → get_or b.bound k 0 ≡ 0
-        → (r : After) → bench.Binds b (get_or bound k 0) r → bench.paper_of r.answer ≡ accepted []
+        → (r : After ⊤) → bench.Binds b (get_or bound k 0) r → bench.paper_of r.answer ≡ accepted []
     choice_can_be_bound b o k h free r answer =
         let same = o.as_opened in
         let a : Allowed b (get_or bound k 0) =
         subst (λ (x : Bench). Allowed x (get_or bound k 0)) (sym same)
         (choice_allowed ws job e bound choice b.bound (ap sound_bench (sym same) ∙ o.sound) k h free) in
-        ap (λ (x : After). bench.paper_of x.answer)
-        (subst (λ (x : Ruling After). bench.BindRuled b x r) (allowed_gives b (get_or bound k 0) a) answer)
+        ap (λ (x : After ⊤). bench.paper_of x.answer)
+        (subst (λ (x : Ruling (After ⊤)). bench.BindRuled b x r) (allowed_gives b (get_or bound k 0) a) answer)
 
     module _ (order : List ℕ) (p : Permᴰ bound order) where
       -- so every order can be carried out,
@@ -176,9 +176,9 @@ module _ (ws : List ℕ) (job : Job) (e : WellFormedJob ws job) where
             ap (λ (x : Bench). x.glue) the_end ∙ same_count ws job e bound choice (order_of_job ws job e bound choice order p)
 
         pub every-order_answers_the_same : (lent : List ℕ)
-            → bench.paper_of (finish_of end lent).answer ≡ mapper.paper_of (answer_of ws lent)
+            → bench.number_paper_of (finish_of end lent).answer ≡ mapper.paper_of (answer_of ws lent)
         every-order_answers_the_same lent =
-            ap (λ (x : Bench). bench.paper_of (finish_of x lent).answer) the_end
+            ap (λ (x : Bench). bench.number_paper_of (finish_of x lent).answer) the_end
             ∙ same_answer ws job e bound choice (order_of_job ws job e bound choice order p) lent
 
         pub every-order_writes_the_same : (lent : List ℕ) → bench.lent_after_finish end lent ≡ lent_after_map ws lent
@@ -187,7 +187,7 @@ module _ (ws : List ℕ) (job : Job) (e : WellFormedJob ws job) where
             ∙ same_lent ws job e bound choice (order_of_job ws job e bound choice order p) lent
 
 -- a sound bench with every source bound finishes, however it came about, and what it writes is accepted with the job of its own tables
-pub every-sound_bench_finishes : (b : Bench) → Shaped b → sound_bench b ≡ true → unbound_on b ≡ 0 → (lent : List ℕ)
+pub every-sound_bench_finishes : (b : Bench) → Shaped b → sound_bench b ≡ true → unbound_on b ≡ None → (lent : List ℕ)
     → words_needed b.tables.nsources ≤ length lent
     → (job : Job) × (WellFormedJob (table_words b.tables) job × Finishes (table_words b.tables) job b lent)
 every-sound_bench_finishes b h s u lent enough =

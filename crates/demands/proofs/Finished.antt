@@ -7,8 +7,8 @@ use native.Mathlib.Omega.{arith}
 use lib.Dec.{eqb}
 use lib.ListN.{length, drop, get_or}
 use lib.Seq.{get_or-take}
-use borrow.Author.Tests.{eq-eqb, ne_eqb, eqb-true, eqb-false, le-ltb}
-use Rattle.std.specs.Prelude.{if◌then◌else◌}
+use borrow.Author.Tests.{ne_eqb, eqb-true, eqb-false, le-ltb}
+use Rattle.std.specs.Prelude.{if◌then◌else◌, None, Ok}
 use Rattle.words.specs.Field.{kind_of, source_function}
 use Rattle.words.specs.Kinds.{RULE}
 use Rattle.words.proofs.Choices.{either}
@@ -25,7 +25,6 @@ use Rattle.bench.specs.Calls.{sound_bench, bindings_on, gives, unbound_on, mappi
 use Rattle.entries.specs.Entries.{first_empty}
 use Rattle.bench.specs.Shape.{Shaped}
 use Rattle.bench.specs.declared.Bench.{Bench}
-use Rattle.bench.specs.declared.Answer.TheVariants.{Mapping}
 use Rattle.bench.proofs.Shapes.{sources_taken}
 use Rattle.bench.proofs.Finishing.{all_bound, bound_taken}
 use Rattle.demands.proofs.Keeping.{both}
@@ -85,10 +84,10 @@ bound_some (w ∷ bs) m h e =
 -- ---- finishing
 
 pub record Finished (b : Bench) (lent : List ℕ) : Type 0 where
-  pub answer : finish_of b lent ≡ gives b (Mapping (words_needed b.tables.nsources))
+  pub answer : finish_of b lent ≡ gives b (Ok (words_needed b.tables.nsources))
   pub words : lent_after_finish b lent ≡ mapping_on b ++ drop (words_needed b.tables.nsources) lent
 
-module _ (b : Bench) (h : Shaped b) (s : sound_bench b ≡ true) (u : unbound_on b ≡ 0) where
+module _ (b : Bench) (h : Shaped b) (s : sound_bench b ≡ true) (u : unbound_on b ≡ None) where
   pub binding_number : length (bindings_on b) ≡ b.tables.nsources
   binding_number = sym (bound_taken b h s ∙ ap length (all_bound b h s u))
 
@@ -114,16 +113,16 @@ module _ (b : Bench) (h : Shaped b) (s : sound_bench b ≡ true) (u : unbound_on
       let n : length (mapping_on b) ≡ words_needed b.tables.nsources
       = mapping_length b.tables.width b.glue (bindings_on b) ∙ ap words_needed binding_number in
       record {
-        answer = rw s (rw (eq-eqb (unbound_on b) 0 u) (rw (le-ltb (length lent) (words_needed b.tables.nsources) room) refl));
+        answer = rw s (rw u (rw (le-ltb (length lent) (words_needed b.tables.nsources) room) refl));
         words =
             rw s
-            (rw (eq-eqb (unbound_on b) 0 u)
+            (rw u
             (written_words (mapping_on b) lent (omega (arith, n)) ∙ ap (λ (x : ℕ). mapping_on b ++ drop x lent) n));
       }
 
 -- ---- where no entry of a source is empty
 
-pub none_empty : (ss bs : List ℕ) → length ss ≤ length bs → ((m : ℕ) → m < length ss → get_or bs m 0 ≡ 0 → ⊥) → first_empty ss bs ≡ 0
+pub none_empty : (ss bs : List ℕ) → length ss ≤ length bs → ((m : ℕ) → m < length ss → get_or bs m 0 ≡ 0 → ⊥) → first_empty ss bs ≡ None
 unfolding first_empty
 none_empty [] bs h some = refl
 none_empty (s ∷ ss) [] h some = refl

@@ -5,10 +5,10 @@ use mathlib.Core.Bool.{Bool, true, false, not, true≢false}
 use mathlib.Core.List.{List}
 use Prim.Native.Nat.{ℕ, ◌<◌}
 use native.Mathlib.Omega.{arith}
-use lib.Dec.{eqb, ltb}
+use lib.Dec.{ltb}
 use lib.ListN.{length, get_or, get_or-append}
-use borrow.Author.Tests.{eq-eqb, eqb-true, ltb-true}
-use Rattle.std.specs.Prelude.{if◌then◌else◌, Result, Ok, Err}
+use borrow.Author.Tests.{ltb-true}
+use Rattle.std.specs.Prelude.{if◌then◌else◌, is_ok, Option, None, Some, Result, Ok, Err}
 use Rattle.words.specs.Paper.{refusal}
 use Rattle.sequence.specs.Limits.{most_sources}
 use Rattle.reader.specs.Job.{WellFormedJob}
@@ -22,12 +22,11 @@ use Rattle.mapper.specs.Mapping.{choice_of, chosen_words, answer_of}
 use Rattle.mapper.specs.Mapping as mapper
 use Rattle.soundness.specs.Sound.{sources_on, glue_on}
 use Rattle.opening.specs.Opening.{table_of}
-use Rattle.bench.specs.Calls.{sound_bench, holding, bindings_on, opened, unbound_on, finish_written, mapping_on, finish_of, lent_after_finish, paper_of}
+use Rattle.bench.specs.Calls.{sound_bench, holding, bindings_on, opened, unbound_on, finish_written, finish_for, lent_for, mapping_on, finish_of, lent_after_finish, number_paper_of}
 use Rattle.bench.specs.Shape.{Shaped}
 use Rattle.bench.specs.declared.Bench.{Bench}
-use Rattle.bench.specs.declared.Answer.TheVariants.{Refused}
+use Rattle.bench.specs.declared.CallError.TheVariants.{Refused}
 use Rattle.bench.proofs.Finishing.{all_bound}
-use Rattle.demands.specs.Answers.{call_accepts}
 use Rattle.demands.specs.Mapped.{RightlyMapped}
 use Rattle.demands.specs.Benches.{BenchOf}
 use Rattle.demands.proofs.OpenedSound.{table_words_lem, source_count}
@@ -45,7 +44,7 @@ module _ (ws : List ℕ) (job : Job) (e : WellFormedJob ws job) (b : Bench) (o :
   unfolding glue_on
   same_words = ap (λ (x : Bench). mapping_on x) o.as_opened
 
-  pub bound_rightly_mapped : unbound_on b ≡ 0 → RightlyMapped ws (mapping_on b)
+  pub bound_rightly_mapped : unbound_on b ≡ None → RightlyMapped ws (mapping_on b)
   bound_rightly_mapped u =
       subst (RightlyMapped ws) (sym same_words) (rightly_mapped ws job e (bindings_on b) (all_bindable ws job e b o u))
 
@@ -60,7 +59,7 @@ module _ (ws : List ℕ) (job : Job) (e : WellFormedJob ws job) (bound : List �
   unfolding table_of
   chosen_at k h = get_or-append bound _ 0 k h
 
-  all_held : unbound_on chosen ≡ 0
+  all_held : unbound_on chosen ≡ None
   all_held =
       let n : length (sources_on chosen.tables) ≡ length bound
       = ap length (same_sources ws job e) ∙ source_count ws job e ∙ sym (size ws job e bound eb) in
@@ -80,33 +79,33 @@ module _ (ws : List ℕ) (job : Job) (e : WellFormedJob ws job) (bound : List �
   unfolding glue_on
   same_count = ap (glue_of job) held
 
-  same_paper : (r : Result ℕ Refusal) → paper_of (finish_written r) ≡ mapper.paper_of r
+  same_paper : (r : Result ℕ Refusal) → number_paper_of (finish_written r) ≡ mapper.paper_of r
   same_paper (Ok n) = refl
   same_paper (Err r) = refl
 
-  pub same_answer : (lent : List ℕ) → paper_of (finish_of chosen lent).answer ≡ mapper.paper_of (answer_of ws lent)
+  pub same_answer : (lent : List ℕ) → number_paper_of (finish_of chosen lent).answer ≡ mapper.paper_of (answer_of ws lent)
   unfolding finish_of answer_of
   same_answer lent =
       rw o.sound
-      (rw (eq-eqb (unbound_on chosen) 0 all_held)
+      (rw all_held
       (rw e (rw eb (rw (size ws job e bound eb) (same_paper (written_of job.sources lent))))))
 
   pub same_lent : (lent : List ℕ) → lent_after_finish chosen lent ≡ mapper.lent_after_map ws lent
   unfolding lent_after_finish mapper.lent_after_map
   same_lent lent =
       rw o.sound
-      (rw (eq-eqb (unbound_on chosen) 0 all_held)
+      (rw all_held
       (rw e (rw eb (ap (λ (l : List ℕ). lent_after l lent) (same_words ws job e chosen o ∙ ap (chosen_words job) held)))))
 
 -- ---- a refused finish
 
 module _ (b : Bench) (h : Shaped b) (lent : List ℕ) where
-  pub refused-lent : call_accepts (finish_of b lent).answer ≡ false → lent_after_finish b lent ≡ lent
+  pub refused-lent : is_ok (finish_of b lent).answer ≡ false → lent_after_finish b lent ≡ lent
   unfolding finish_of lent_after_finish written_of
-  refused-lent e = by_soundness (sound_bench b) refl (eqb (unbound_on b) 0) refl e
+  refused-lent e = by_soundness (sound_bench b) refl (unbound_on b) refl e
     where
-      too_few : sound_bench b ≡ true → unbound_on b ≡ 0 → (c : Bool) → ltb (length lent) (words_needed b.tables.nsources) ≡ c
-          → call_accepts (finish_written (if c then Err (refusal 23 (words_needed b.tables.nsources)) else Ok (words_needed b.tables.nsources)))
+      too_few : sound_bench b ≡ true → unbound_on b ≡ None → (c : Bool) → ltb (length lent) (words_needed b.tables.nsources) ≡ c
+          → is_ok (finish_written (if c then Err (refusal 23 (words_needed b.tables.nsources)) else Ok (words_needed b.tables.nsources)))
           ≡ false
           → lent_after (mapping_on b) lent ≡ lent
       too_few s u true z e =
@@ -119,14 +118,9 @@ module _ (b : Bench) (h : Shaped b) (lent : List ℕ) where
           ))
       too_few s u false z e = absurd (true≢false e)
 
-      by_soundness : (p : Bool) → sound_bench b ≡ p → (q : Bool) → eqb (unbound_on b) 0 ≡ q
-          → call_accepts
-          (if not p then Refused (refusal 20 0)
-          else if not q then Refused (refusal 22 (unbound_on b))
-          else finish_written (written_of b.tables.nsources lent))
-          ≡ false
-          → (if not p then lent else if not q then lent else lent_after (mapping_on b) lent) ≡ lent
-      by_soundness true s true u e =
-          too_few s (eqb-true (unbound_on b) 0 u) (ltb (length lent) (words_needed b.tables.nsources)) refl e
-      by_soundness true s false u e = refl
+      by_soundness : (p : Bool) → sound_bench b ≡ p → (q : Option ℕ) → unbound_on b ≡ q
+          → is_ok (if not p then Err (Refused (refusal 20 0)) else finish_for b lent q) ≡ false
+          → (if not p then lent else lent_for b lent q) ≡ lent
+      by_soundness true s None u e = too_few s u (ltb (length lent) (words_needed b.tables.nsources)) refl e
+      by_soundness true s (Some f) u e = refl
       by_soundness false s q u e = refl

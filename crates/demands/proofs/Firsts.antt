@@ -6,7 +6,7 @@ use Prim.Native.Nat.{ℕ, zero, suc, ◌≤◌, ◌<◌}
 use native.Mathlib.Decide.{dec_lt}
 use native.Mathlib.Omega.{arith}
 use lib.ListN.{length, get_or}
-use borrow.Author.Tests.{eq-eqb, eqb-true, not-false}
+use borrow.Author.Tests.{not-false}
 use Rattle.std.specs.Prelude.{Some, None, Result, Ok, ⊤}
 use Rattle.words.specs.Field.{source_function}
 use Rattle.words.proofs.Choices.{either}

@@ -5,6 +5,7 @@ use mathlib.Core.List.{List, [], ◌∷◌, ◌++◌}
 use Prim.Native.Nat.{ℕ, zero, suc, ◌+◌, ◌≤◌}
 use native.Mathlib.Omega.{arith}
 use lib.Dec.{eqb}
+use borrow.Author.Tests.{not-true}
 use Rattle.std.specs.Prelude.{is_ok, if◌then◌else◌, Result, Ok, Err, ⊤, Option, Some, None}
 use Rattle.words.specs.Field.{kind_of}
 use Rattle.words.specs.Kinds.{RULE}
@@ -33,17 +34,17 @@ use Rattle.checker.specs.declared.CheckError.TheVariants as checked
 use Rattle.rightness.specs.Rightness.{unless_wrong}
 use Rattle.rightness.proofs.Judging.{right_or_named}
 use Rattle.soundness.specs.Sound.{rule_fault}
-use Rattle.bench.specs.Calls.{sound_bench, in_tables, has_binding, bind_fault, WrongAt, BindRuled}
+use Rattle.bench.specs.Calls.{sound_bench, in_tables, has_binding, bind_check, WrongAt, BindRuled}
 use Rattle.bench.specs.Calls as bench
 use Rattle.bench.specs.declared.Bench.{Bench}
-use Rattle.bench.specs.declared.Answer as bench-answer
-use Rattle.bench.specs.declared.Answer.TheVariants as call
+use Rattle.bench.specs.declared.CallError.{CallError}
+use Rattle.bench.specs.declared.CallError.TheVariants as call
 use Rattle.bench.specs.declared.After.{After}
 use Rattle.reader.specs.Job.{job_of}
 use Rattle.reader.specs.Mapping.{mapping_of}
 use Rattle.wellformed.proofs.Numbers.{job_number, mapping_number}
 use Rattle.fitting.specs.Pair.{pair_of, with_job}
-use Rattle.demands.specs.Answers.{among, OneNumber, judge_numbers, read_numbers, check_numbers, bind_numbers, judge_accepts, call_accepts}
+use Rattle.demands.specs.Answers.{among, OneNumber, judge_numbers, read_numbers, check_numbers, bind_numbers, judge_accepts}
 
 -- an answer that is accepted, or refused with a number of the list
 abbrev pub Listed : {A : Type 0} (accepts : A → Bool) (paper : A → Paper) (numbers : List ℕ) (r : A) → Type 0
@@ -193,25 +194,36 @@ check_number jw mw = go (job_of jw) refl (mapping_of mw) refl
 
 -- ---- the calls of a bench
 
-abbrev pub accepts : After → Bool
-accepts r = call_accepts r.answer
+abbrev pub accepts : {A : Type 0} → After A → Bool
+accepts r = is_ok r.answer
 
-abbrev pub paper : After → Paper
+abbrev pub paper : After ⊤ → Paper
 paper r = bench.paper_of r.answer
 
-module _ (b : Bench) (w : ℕ) where
-  abbrev pub Binding : Ruling After → Type 0
-  Binding x = OneNumber After accepts paper bind_numbers (BindRuled b x)
+abbrev pub number_paper : After ℕ → Paper
+number_paper r = bench.number_paper_of r.answer
 
-  pub fault_number : eqb (bind_fault b w) no_refusal ≡ false → among bind_numbers (bind_fault b w) ≡ true
-  unfolding bind_fault rule_fault
-  fault_number =
-      let P : ℕ → Type 0 = λ x. eqb x no_refusal ≡ false → among bind_numbers x ≡ true in
-      either P (not (sound_bench b)) (λ _ _. refl)
+module _ (b : Bench) (w : ℕ) where
+  abbrev pub Binding : Ruling (After ⊤) → Type 0
+  Binding x = OneNumber (After ⊤) accepts paper bind_numbers (BindRuled b x)
+
+  -- a refusal before 10
+  pub check_refused : (r : Refusal) → bind_check b w ≡ Err r → among bind_numbers r.number ≡ true
+  unfolding bind_check rule_fault
+  check_refused r =
+      let P : Result ⊤ Refusal → Type 0 = λ x. x ≡ Err r → among bind_numbers r.number ≡ true in
+      let Q : ℕ → Type 0 = λ x. eqb x no_refusal ≡ false → among bind_numbers x ≡ true in
+      either P (not (sound_bench b)) (λ _ e. numbered 20 0 refl e)
       (λ _. either P (not (eqb (rule_fault w) no_refusal))
-      (λ _. either P (not (eqb (kind_of w) RULE)) (λ _ _. refl)
-      (λ _. recipe_number P w (λ _. refl) (λ _. refl) (λ _. refl) (λ e. sym e)))
-      (λ _. either P (not (in_tables b w)) (λ _ _. refl) (λ _. either P (has_binding b (source_of w)) (λ _ _. refl) (λ _ e. sym e))))
+      (λ some e. numbered (rule_fault w) 0
+      (either Q (not (eqb (kind_of w) RULE)) (λ _ _. refl) (λ _. recipe_number Q w (λ _. refl) (λ _. refl) (λ _. refl) (λ z. sym z))
+      (not-true (eqb (rule_fault w) no_refusal) some)) e)
+      (λ _. either P (not (in_tables b w)) (λ _ e. numbered 8 0 refl e)
+      (λ _. either P (has_binding b (source_of w)) (λ _ e. numbered 21 (source_of w) refl e)
+      (λ _ e. absurd (let z : ◌≡◌ {A = ℕ} 0 1 = cc in omega arith)))))
+    where
+      numbered : (n i : ℕ) → among bind_numbers n ≡ true → ◌≡◌ {A = Result ⊤ Refusal} (Err (refusal n i)) (Err r) → among bind_numbers r.number ≡ true
+      numbered n i h e = let q : refusal n i ≡ r = cc in subst (λ (x : Refusal). among bind_numbers x.number ≡ true) q h
 
   pub bind_names : (c : Claim) (n : ℕ) → Binding (Names c n)
   bind_names c n =
@@ -224,23 +236,17 @@ module _ (b : Bench) (w : ℕ) where
             );
       }
     where
-      listed : (a : bench-answer.Answer) → WrongAt c n a → Listed call_accepts bench.paper_of bind_numbers a
-      listed call.Done e = absurd e
-      listed (call.Count k) e = absurd e
-      listed (call.Mapping k) e = absurd e
-      listed (call.Refused r) e = absurd e
-      listed (call.Wrong v) e = refl
+      listed : (a : Result ⊤ CallError) → WrongAt c n a → Listed is_ok bench.paper_of bind_numbers a
+      listed (Ok tt) e = absurd e
+      listed (Err (call.Refused r)) e = absurd e
+      listed (Err (call.Wrong v)) e = refl
 
-      number : (a : bench-answer.Answer) → WrongAt c n a → (bench.paper_of a).number ≡ 10
-      number call.Done e = absurd e
-      number (call.Count k) e = absurd e
-      number (call.Mapping k) e = absurd e
-      number (call.Refused r) e = absurd e
-      number (call.Wrong v) e = refl
+      number : (a : Result ⊤ CallError) → WrongAt c n a → (bench.paper_of a).number ≡ 10
+      number (Ok tt) e = absurd e
+      number (Err (call.Refused r)) e = absurd e
+      number (Err (call.Wrong v)) e = refl
 
-      place : (a : bench-answer.Answer) → WrongAt c n a → (bench.paper_of a).place ≡ c.function
-      place call.Done e = absurd e
-      place (call.Count k) e = absurd e
-      place (call.Mapping k) e = absurd e
-      place (call.Refused r) e = absurd e
-      place (call.Wrong v) e = e.named
+      place : (a : Result ⊤ CallError) → WrongAt c n a → (bench.paper_of a).place ≡ c.function
+      place (Ok tt) e = absurd e
+      place (Err (call.Refused r)) e = absurd e
+      place (Err (call.Wrong v)) e = e.named

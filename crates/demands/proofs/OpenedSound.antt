@@ -28,7 +28,6 @@ use Rattle.glue.specs.Glue.{glue}
 use Rattle.glue.proofs.Bounds.{glue_none}
 use Rattle.opening.specs.Opening.{table_of, tables_in}
 use Rattle.bench.specs.Calls.{sound_bench, opened, bench_of_zeros, open_of, open_for}
-use Rattle.bench.specs.declared.Answer.TheVariants.{Done}
 
 pub zeros-not_sound : sound_bench bench_of_zeros ≡ false
 unfolding is_sound tables_sound is_width
@@ -141,10 +140,10 @@ module _ (ws : List ℕ) (job : Job) (e : WellFormedJob ws job) where
       })
 
 -- said of the call
-pub open_sound : (ws : List ℕ) → (open_of ws).answer ≡ Done → sound_bench (open_of ws).bench ≡ true
+pub open_sound : (ws : List ℕ) → (open_of ws).answer ≡ (Ok tt) → sound_bench (open_of ws).bench ≡ true
 unfolding open_of
 open_sound ws = go (job_of ws) refl
   where
-    go : (r : Result Job Refusal) → job_of ws ≡ r → (open_for ws r).answer ≡ Done → sound_bench (open_for ws r).bench ≡ true
+    go : (r : Result Job Refusal) → job_of ws ≡ r → (open_for ws r).answer ≡ (Ok tt) → sound_bench (open_for ws r).bench ≡ true
     go (Ok job) e d = opened_sound ws job e
     go (Err r) e d = let z : ◌≡◌ {A = ℕ} 0 1 = cc in absurd (omega arith)

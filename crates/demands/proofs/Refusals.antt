@@ -9,7 +9,7 @@ use Rattle.words.specs.Field.{kind_of}
 use Rattle.words.specs.Kinds.{is_recipe}
 use Rattle.words.specs.Paper.{no_refusal, accepted}
 use Rattle.words.proofs.Choices.{either}
-use Rattle.alu.specs.Function.{no_function, function_of, ports}
+use Rattle.alu.specs.Function.{function_of, ports}
 use Rattle.layout.specs.Layout.{recipe_fault}
 use Rattle.verdict.specs.Verdicts.{judgement_paper, judge_of, Judged}
 use Rattle.std.specs.Prelude.{is_ok, Result, Ok, Err, ⊤, Option, Some, None}
@@ -24,10 +24,10 @@ use Rattle.table.specs.Parts.{bindings_of, terms_of}
 use Rattle.glue.specs.Glue.{glue}
 use Rattle.checker.specs.Check.{Checks}
 use Rattle.checker.specs.Check as checker
-use Rattle.bench.specs.Calls.{sound_bench, has_binding, bind_fault, bench_of_zeros, open_for, open_of, claim_on, bind_of, Binds, release_of, price_of, unbound_on, finish_written, finish_of}
+use Rattle.bench.specs.Calls.{sound_bench, has_binding, bind_check, bind_for, bench_of_zeros, open_for, open_of, claim_on, bind_of, Binds, release_of, price_of, unbound_on, finish_for, finish_written, finish_of}
 use Rattle.bench.specs.Calls as bench
 use Rattle.bench.specs.declared.Bench.{Bench}
-use Rattle.bench.specs.declared.Answer as bench-answer
+use Rattle.bench.specs.declared.CallError.{CallError}
 use Rattle.bench.specs.declared.After.{After}
 use lib.ListN.{length}
 use borrow.Author.Tests.{not-true}
@@ -47,13 +47,13 @@ use Rattle.writer.specs.Write as writer
 use Rattle.mapper.specs.Mapping.{choice_of, answer_to, answer_for, answer_of, lent_after_map}
 use Rattle.mapper.specs.Mapping as mapper
 use Rattle.bench.specs.Shape.{Shaped}
-use Rattle.demands.specs.Answers.{among, OneNumber, judge_numbers, read_numbers, check_numbers, bind_numbers, release_numbers, judge_accepts, call_accepts, write_numbers, evaluate_numbers, price_numbers, map_numbers, bench_price_numbers, finish_numbers}
+use Rattle.demands.specs.Answers.{among, OneNumber, judge_numbers, read_numbers, check_numbers, bind_numbers, release_numbers, judge_accepts, write_numbers, evaluate_numbers, price_numbers, map_numbers, bench_price_numbers, finish_numbers}
 use Rattle.demands.proofs.OpenedSound.{zeros-not_sound}
 use Rattle.demands.proofs.Outcomes.{accepted_apart, Outcome, Unread, Unmapped, Short, Writes, outcome}
 use Rattle.demands.proofs.Allowed.{Outcome as Bind, Bound, Unchanged, outcome as bind}
 use Rattle.demands.proofs.Releasing.{Release, Released, Kept, release}
 use Rattle.demands.proofs.Finishing.{refused-lent}
-use Rattle.demands.proofs.Numbered.{Listed, one_answer, of_reading, recipe_number, Judges, sentence_refused, sentence_decided, fit_number, accepts, paper, Binding, fault_number, bind_names, check_number}
+use Rattle.demands.proofs.Numbered.{Listed, one_answer, of_reading, recipe_number, Judges, sentence_refused, sentence_decided, fit_number, accepts, paper, number_paper, Binding, check_refused, bind_names, check_number}
 
 -- ---- evaluate, judge, read_job, read_mapping
 
@@ -142,7 +142,7 @@ map_answers ws lent = one_answer is_ok mapper.paper_of map_numbers (answer_of ws
 
 -- ---- open, bind, release, price, finish
 
-pub open_answers : (ws : List ℕ) → OneNumber After accepts paper read_numbers (λ r. r ≡ open_of ws)
+pub open_answers : (ws : List ℕ) → OneNumber (After ⊤) accepts paper read_numbers (λ r. r ≡ open_of ws)
 unfolding open_of
 open_answers ws = one_answer accepts paper read_numbers (open_of ws) (go (job_of ws) refl)
   where
@@ -150,61 +150,67 @@ open_answers ws = one_answer accepts paper read_numbers (open_of ws) (go (job_of
     go (Ok j) e = refl
     go (Err r) e = of_reading [] r.number (job_number r ws e)
 
-pub bind_answers : (b : Bench) (w : ℕ) → OneNumber After accepts paper bind_numbers (Binds b w)
+pub bind_answers : (b : Bench) (w : ℕ) → OneNumber (After ⊤) accepts paper bind_numbers (Binds b w)
 unfolding bind_of
-bind_answers b w =
-    either (Binding b w) (not (eqb (bind_fault b w) no_refusal))
-    (λ some. one_answer accepts paper bind_numbers _ (fault_number b w (not-true (eqb (bind_fault b w) no_refusal) some)))
-    (λ _. either (Binding b w) (not (is_right (claim_on b w) b.tables.width)) (λ _. bind_names b w (claim_on b w) b.tables.width)
-    (λ _. one_answer accepts paper bind_numbers _ refl))
+bind_answers b w = go (bind_check b w) refl
+  where
+    go : (r : Result ⊤ Refusal) → bind_check b w ≡ r → Binding b w (bind_for b w r)
+    go (Err r) e = one_answer accepts paper bind_numbers _ (check_refused b w r e)
+    go (Ok tt) e =
+        either (Binding b w) (not (is_right (claim_on b w) b.tables.width)) (λ _. bind_names b w (claim_on b w) b.tables.width)
+        (λ _. one_answer accepts paper bind_numbers _ refl)
 
-pub release_answers : (b : Bench) (f : ℕ) → OneNumber After accepts paper release_numbers (λ r. r ≡ release_of b f)
+pub release_answers : (b : Bench) (f : ℕ) → OneNumber (After ⊤) accepts paper release_numbers (λ r. r ≡ release_of b f)
 unfolding release_of
 release_answers b f =
-    let P : After → Type 0 = λ x. Listed accepts paper release_numbers x in
+    let P : After ⊤ → Type 0 = λ x. Listed accepts paper release_numbers x in
     one_answer accepts paper release_numbers (release_of b f)
     (either P (not (sound_bench b)) (λ _. refl) (λ _. either P (not (has_binding b f)) (λ _. refl) (λ _. refl)))
 
-pub bench_price_answers : (b : Bench) → OneNumber After accepts paper bench_price_numbers (λ r. r ≡ price_of b)
+pub bench_price_answers : (b : Bench) → OneNumber (After ℕ) accepts number_paper bench_price_numbers (λ r. r ≡ price_of b)
 unfolding price_of
 bench_price_answers b =
-    one_answer accepts paper bench_price_numbers (price_of b)
-    (either (λ (x : bench-answer.Answer). Listed call_accepts bench.paper_of bench_price_numbers x) (not (sound_bench b)) (λ _. refl) (λ _. refl))
+    one_answer accepts number_paper bench_price_numbers (price_of b)
+    (either (λ (x : Result ℕ CallError). Listed is_ok bench.number_paper_of bench_price_numbers x) (not (sound_bench b)) (λ _. refl) (λ _. refl))
 
-pub finish_answers : (b : Bench) (lent : List ℕ) → OneNumber After accepts paper finish_numbers (λ r. r ≡ finish_of b lent)
+pub finish_answers : (b : Bench) (lent : List ℕ) → OneNumber (After ℕ) accepts number_paper finish_numbers (λ r. r ≡ finish_of b lent)
 unfolding finish_of written_of
 finish_answers b lent =
-    let P : bench-answer.Answer → Type 0 = λ x. Listed call_accepts bench.paper_of finish_numbers x in
-    one_answer accepts paper finish_numbers (finish_of b lent)
-    (either P (not (sound_bench b)) (λ _. refl)
-    (λ _. either P (not (eqb (unbound_on b) no_function)) (λ _. refl)
-    (λ _. either (λ (x : Result ℕ Refusal). P (finish_written x)) (ltb (length lent) (words_needed b.tables.nsources)) (λ _. refl) (λ _. refl))))
+    one_answer accepts number_paper finish_numbers (finish_of b lent)
+    (either (λ (x : Result ℕ CallError). Listed is_ok bench.number_paper_of finish_numbers x) (not (sound_bench b)) (λ _. refl)
+    (λ _. by_unbound (unbound_on b)))
+  where
+    by_unbound : (u : Option ℕ) → Listed is_ok bench.number_paper_of finish_numbers (finish_for b lent u)
+    by_unbound (Some f) = refl
+    by_unbound None =
+        either (λ (x : Result ℕ Refusal). Listed is_ok bench.number_paper_of finish_numbers (finish_written x))
+        (ltb (length lent) (words_needed b.tables.nsources)) (λ _. refl) (λ _. refl)
 
 -- ---- "A refusal hands back the bench it was given and writes to no lent word."
 
 -- a refused open was given none: "it hands back one of zeros only, which is not sound"
-pub refused-open_hands_back_zeros : (ws : List ℕ) → call_accepts (open_of ws).answer ≡ false
+pub refused-open_hands_back_zeros : (ws : List ℕ) → is_ok (open_of ws).answer ≡ false
     → ((open_of ws).bench ≡ bench_of_zeros) × (sound_bench bench_of_zeros ≡ false)
 unfolding open_of
 refused-open_hands_back_zeros ws = go (job_of ws)
   where
-    go : (r : Result Job Refusal) → call_accepts (open_for ws r).answer ≡ false
+    go : (r : Result Job Refusal) → is_ok (open_for ws r).answer ≡ false
         → ((open_for ws r).bench ≡ bench_of_zeros) × (sound_bench bench_of_zeros ≡ false)
     go (Ok j) e = absurd (true≢false e)
     go (Err r) e = (refl, zeros-not_sound)
 
-pub refused-bind_changes_nothing : (b : Bench) (w : ℕ) (r : After) → Binds b w r → call_accepts r.answer ≡ false → r.bench ≡ b
+pub refused-bind_changes_nothing : (b : Bench) (w : ℕ) (r : After ⊤) → Binds b w r → is_ok r.answer ≡ false → r.bench ≡ b
 refused-bind_changes_nothing b w r answer e = by_outcome (bind b w r answer)
   where
     by_outcome : Bind b w r → r.bench ≡ b
-    by_outcome (Bound _ u) = absurd (true≢false (sym (ap (λ (x : After). call_accepts x.answer) u) ∙ e))
+    by_outcome (Bound _ u) = absurd (true≢false (sym (ap (λ (x : After ⊤). is_ok x.answer) u) ∙ e))
     by_outcome (Unchanged _ u) = u
 
-pub refused-release_changes_nothing : (b : Bench) (f : ℕ) → call_accepts (release_of b f).answer ≡ false → (release_of b f).bench ≡ b
+pub refused-release_changes_nothing : (b : Bench) (f : ℕ) → is_ok (release_of b f).answer ≡ false → (release_of b f).bench ≡ b
 refused-release_changes_nothing b f e = by_outcome (release b f)
   where
     by_outcome : Release b f → (release_of b f).bench ≡ b
-    by_outcome (Released _ _ u) = absurd (true≢false (sym (ap (λ (x : After). call_accepts x.answer) u) ∙ e))
+    by_outcome (Released _ _ u) = absurd (true≢false (sym (ap (λ (x : After ⊤). is_ok x.answer) u) ∙ e))
     by_outcome (Kept _ u) = u
 
 -- price and finish hand it back whatever they answer
@@ -229,6 +235,6 @@ refused-map_writes_nothing ws lent e = by_outcome (outcome ws lent)
     by_outcome (Short j bound _ _ _ _ kept) = kept
     by_outcome (Writes j bound _ _ _ p _) = absurd (by_answer (answer_of ws lent) e (words_needed j.sources) p)
 
-pub refused-finish_writes_nothing : (b : Bench) → Shaped b → (lent : List ℕ) → call_accepts (finish_of b lent).answer ≡ false
+pub refused-finish_writes_nothing : (b : Bench) → Shaped b → (lent : List ℕ) → is_ok (finish_of b lent).answer ≡ false
     → bench.lent_after_finish b lent ≡ lent
 refused-finish_writes_nothing b h lent e = refused-lent b h lent e

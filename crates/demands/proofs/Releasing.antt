@@ -6,47 +6,51 @@ use Prim.Native.Nat.{ℕ, zero, suc}
 use native.Mathlib.Omega.{arith}
 use lib.Dec.{eqb}
 use lib.ListN.{set}
+use Rattle.std.specs.Prelude.{Ok, ⊤}
 use Rattle.words.specs.Paper.{Paper, refusal, accepted}
 use Rattle.soundness.specs.Sound.{nothing, empty, sources_on, targets_on, entry_sound, bound_sound}
 use Rattle.soundness.proofs.Soundness.{sound_holds, sound_when}
-use Rattle.bench.specs.Calls.{sound_bench, entry_for, has_binding, bound_at, gives, release_of, paper_of}
+use Rattle.bench.specs.Calls.{sound_bench, holding, has_binding, gives, refuses, release_of, paper_of}
 use Rattle.bench.specs.declared.Bench.{Bench}
-use Rattle.bench.specs.declared.Answer.TheVariants.{Done, Refused}
 use Rattle.bench.specs.declared.After.{After}
+use Rattle.bench.proofs.Binds.{place_for, at_place}
+use Rattle.entries.proofs.Searching.{bound_place}
 use Rattle.demands.proofs.Keeping.{both}
 
 -- the bench after a function is released
 abbrev pub released_on : Bench → ℕ → Bench
-released_on b f = bound_at b (entry_for b f) nothing
+released_on b f = holding b (set b.bound (place_for b f) nothing)
 
 -- ---- the answer
 
 module _ (b : Bench) (f : ℕ) where
-  unsound_refused : sound_bench b ≡ false → release_of b f ≡ gives b (Refused (refusal 20 0))
+  unsound_refused : sound_bench b ≡ false → release_of b f ≡ refuses b (refusal 20 0)
   unfolding release_of
   unsound_refused s = rw s refl
 
-  pub unbound_refused : sound_bench b ≡ true → has_binding b f ≡ false → release_of b f ≡ gives b (Refused (refusal 24 f))
+  pub unbound_refused : sound_bench b ≡ true → has_binding b f ≡ false → release_of b f ≡ refuses b (refusal 24 f)
   unfolding release_of
   unbound_refused s u = rw s (rw u refl)
 
-  pub releases : sound_bench b ≡ true → has_binding b f ≡ true → release_of b f ≡ gives (released_on b f) Done
+  pub releases : sound_bench b ≡ true → has_binding b f ≡ true → release_of b f ≡ gives (released_on b f) (Ok tt)
   unfolding release_of
-  releases s u = rw s (rw u refl)
+  releases s u =
+      rw s
+      (rw u (ap (λ (x : Bench). gives x (Ok tt)) (at_place b f nothing (bound_place (sources_on b.tables) f b.bound u).0)))
 
 -- the answer's paper tells which it was; refused, the bench is as it was
 pub data Release (b : Bench) (f : ℕ) : Type 0 where
-  Released : sound_bench b ≡ true → has_binding b f ≡ true → release_of b f ≡ gives (released_on b f) Done → Release b f
+  Released : sound_bench b ≡ true → has_binding b f ≡ true → release_of b f ≡ gives (released_on b f) (Ok tt) → Release b f
   Kept : (paper_of (release_of b f).answer ≡ accepted [] → ⊥) → (release_of b f).bench ≡ b → Release b f
 
 pub release : (b : Bench) (f : ℕ) → Release b f
 release b f = by_tests (sound_bench b) refl (has_binding b f) refl
   where
-    kept : (number place : ℕ) → (number ≡ 0 → ⊥) → release_of b f ≡ gives b (Refused (refusal number place)) → Release b f
+    kept : (number place : ℕ) → (number ≡ 0 → ⊥) → release_of b f ≡ refuses b (refusal number place) → Release b f
     kept number place some e =
         Kept
-        (λ a. some (sym (ap (λ (x : After). (paper_of x.answer).number) e) ∙ ap (λ (x : Paper). x.number) a))
-        (ap (λ (x : After). x.bench) e)
+        (λ a. some (sym (ap (λ (x : After ⊤). (paper_of x.answer).number) e) ∙ ap (λ (x : Paper). x.number) a))
+        (ap (λ (x : After ⊤). x.bench) e)
 
     by_tests : (s : Bool) → sound_bench b ≡ s → (h : Bool) → has_binding b f ≡ h → Release b f
     by_tests false s h u = kept 20 0 (λ z. omega arith) (unsound_refused b f s)
@@ -80,12 +84,12 @@ released_sound b f s =
     let h = sound_holds b.tables b.bound b.glue s in
     let ss = sources_on b.tables in
     let ts = targets_on b.tables in
-    sound_when b.tables (set b.bound (entry_for b f) 0) _
+    sound_when b.tables (set b.bound (place_for b f) 0) _
     (record {
       tables = h.tables;
       past_sources = h.past_sources;
       past_targets = h.past_targets;
-      entries = entries_emptied b.tables.width ss ts ss b.bound (entry_for b f) h.entries;
+      entries = entries_emptied b.tables.width ss ts ss b.bound (place_for b f) h.entries;
       count = refl;
     })
 
@@ -94,5 +98,5 @@ pub release_keeps_sound : (b : Bench) (f : ℕ) → sound_bench b ≡ true → s
 release_keeps_sound b f s = by_outcome (release b f)
   where
     by_outcome : Release b f → sound_bench (release_of b f).bench ≡ true
-    by_outcome (Released _ _ e) = ap (λ (x : After). sound_bench x.bench) e ∙ released_sound b f s
+    by_outcome (Released _ _ e) = ap (λ (x : After ⊤). sound_bench x.bench) e ∙ released_sound b f s
     by_outcome (Kept _ e) = ap sound_bench e ∙ s

@@ -8,8 +8,8 @@ use Prim.Native.Nat.{ℕ, ◌^◌, ◌≤◌, ◌<◌}
 use native.Mathlib.Omega.{arith}
 use lib.Dec.{eqb, ltb}
 use lib.ListN.{length, take, drop}
-use borrow.Author.Tests.{eqb-false, lt-leb, le-ltb}
-use Rattle.std.specs.Prelude.{if◌then◌else◌, Result, Ok, Err, ⊤}
+use borrow.Author.Tests.{lt-leb, le-ltb}
+use Rattle.std.specs.Prelude.{if◌then◌else◌, Option, None, Some, Result, Ok, Err, ⊤}
 use Rattle.words.specs.Paper.{Paper, refusal, accepted, refused, source_place}
 use Rattle.bits.specs.Bits.{num}
 use Rattle.bits.specs.declared.Ports.{Ports}
@@ -38,11 +38,11 @@ use Rattle.mapper.specs.Mapping as mapper
 use Rattle.mapper.proofs.Answering.{sources_length}
 use Rattle.checker.specs.Check.{Checks}
 use Rattle.soundness.specs.Sound.{glue_on}
-use Rattle.bench.specs.Calls.{sound_bench, bindings_on, opened, price_of, unbound_on, mapping_on, finish_written, finish_of}
+use Rattle.bench.specs.Calls.{sound_bench, bindings_on, opened, price_of, unbound_on, mapping_on, finish_written, finish_for, finish_of}
 use Rattle.bench.specs.Calls as bench
 use Rattle.bench.specs.Shape.{Shaped}
 use Rattle.bench.specs.declared.Bench.{Bench}
-use Rattle.bench.specs.declared.Answer.TheVariants.{Refused}
+use Rattle.bench.specs.declared.CallError.TheVariants.{Refused}
 use Rattle.bench.specs.declared.After.{After}
 use Rattle.bench.proofs.Pricing.{empty_price}
 use Rattle.demands.specs.Mapped.{source_at, Fitting, Bound, NamesUnbound}
@@ -161,43 +161,39 @@ names-the_lowest_unbound jw mw r answer job m fits i h unbound = unbound_whateve
 
 module _ (b : Bench) (h : Shaped b) where
   -- "A bind adds just its own binding."
-  pub accepted_bind_adds : (w : ℕ) (r : After) → bench.Binds b w r → bench.paper_of r.answer ≡ accepted [] → Adds b w r.bench
+  pub accepted_bind_adds : (w : ℕ) (r : After ⊤) → bench.Binds b w r → bench.paper_of r.answer ≡ accepted [] → Adds b w r.bench
   accepted_bind_adds w r answer taken = by_outcome (bind b w r answer)
     where
       by_outcome : Bind b w r → Adds b w r.bench
-      by_outcome (IsBound a e) = subst (λ (x : After). Adds b w x.bench) (sym e) (adds b h w a)
+      by_outcome (IsBound a e) = subst (λ (x : After ⊤). Adds b w x.bench) (sym e) (adds b h w a)
       by_outcome (Unchanged refused _) = absurd (refused taken)
 
   -- "22. Finish: source unbound; place: lowest."
-  pub unbound_names_the_lowest : (lent : List ℕ) (place : ℕ) → bench.paper_of (finish_of b lent).answer ≡ refused 22 place
+  pub unbound_names_the_lowest : (lent : List ℕ) (place : ℕ) → bench.number_paper_of (finish_of b lent).answer ≡ refused 22 place
       → LowestUnbound b place
   unfolding finish_of written_of
-  unbound_names_the_lowest lent place e = by_soundness (sound_bench b) refl (eqb (unbound_on b) 0) refl e
+  unbound_names_the_lowest lent place e = by_soundness (sound_bench b) refl (unbound_on b) refl e
     where
       other : {Q : Type 0} (n i : ℕ) → (n ≡ 22 → ⊥) → refused n i ≡ refused 22 place → Q
       other n i apart e = absurd (apart (ap (λ (x : Paper). x.number) e))
 
       written_or_short : (c : Bool)
-          → bench.paper_of (finish_written (if c then Err (refusal 23 (words_needed b.tables.nsources)) else Ok (words_needed b.tables.nsources)))
+          → bench.number_paper_of (finish_written (if c then Err (refusal 23 (words_needed b.tables.nsources)) else Ok (words_needed b.tables.nsources)))
           ≡ refused 22 place
           → LowestUnbound b place
       written_or_short true e = other 23 (words_needed b.tables.nsources) (λ z. omega arith) e
       written_or_short false e = accepted_apart (words_needed b.tables.nsources) 22 place e
 
-      by_soundness : (p : Bool) → sound_bench b ≡ p → (q : Bool) → eqb (unbound_on b) 0 ≡ q
-          → bench.paper_of
-          (if not p then Refused (refusal 20 0)
-          else if not q then Refused (refusal 22 (unbound_on b))
-          else finish_written (written_of b.tables.nsources lent))
-          ≡ refused 22 place
+      by_soundness : (p : Bool) → sound_bench b ≡ p → (q : Option ℕ) → unbound_on b ≡ q
+          → bench.number_paper_of (if not p then Err (Refused (refusal 20 0)) else finish_for b lent q) ≡ refused 22 place
           → LowestUnbound b place
       by_soundness false s q u e = other 20 0 (λ z. omega arith) e
-      by_soundness true s true u e = written_or_short (ltb (length lent) (words_needed b.tables.nsources)) e
-      by_soundness true s false u e =
-          subst (LowestUnbound b) (ap (λ (x : Paper). x.place) e) (lowest_unbound b h s (eqb-false (unbound_on b) 0 u))
+      by_soundness true s None u e = written_or_short (ltb (length lent) (words_needed b.tables.nsources)) e
+      by_soundness true s (Some f) u e =
+          subst (LowestUnbound b) (ap (λ (x : Paper). x.place) e) (lowest_unbound b h s f u)
 
   -- what finish writes reads back to the bench's bindings and count
-  pub finish_reads_back : sound_bench b ≡ true → unbound_on b ≡ 0 → ReadsBack b (mapping_on b)
+  pub finish_reads_back : sound_bench b ≡ true → unbound_on b ≡ None → ReadsBack b (mapping_on b)
   unfolding glue_on
   finish_reads_back s u =
       let j = of_own_job b h s in
@@ -223,9 +219,9 @@ module _ (b : Bench) (h : Shaped b) where
           }
 
 -- "The empty bench prices at 0.": a sound bench with nothing bound, and so the bench of an opened job
-pub empty_bench-prices_at_zero : (b : Bench) → sound_bench b ≡ true → bindings_on b ≡ [] → bench.paper_of (price_of b).answer ≡ accepted (0 ∷ [])
-empty_bench-prices_at_zero b s none = ap (λ (x : After). bench.paper_of x.answer) (empty_price b s none)
+pub empty_bench-prices_at_zero : (b : Bench) → sound_bench b ≡ true → bindings_on b ≡ [] → bench.number_paper_of (price_of b).answer ≡ accepted (0 ∷ [])
+empty_bench-prices_at_zero b s none = ap (λ (x : After ℕ). bench.number_paper_of x.answer) (empty_price b s none)
 
 pub opened_bench_prices_at_zero : (ws : List ℕ) (job : Job) → WellFormedJob ws job
-    → bench.paper_of (price_of (opened ws job)).answer ≡ accepted (0 ∷ [])
+    → bench.number_paper_of (price_of (opened ws job)).answer ≡ accepted (0 ∷ [])
 opened_bench_prices_at_zero ws job e = empty_bench-prices_at_zero (opened ws job) (opened_sound ws job e) (filled_none most_sources)

@@ -1,19 +1,10 @@
 -- The words in which demand 1 is said: "A job, mapping, recipe or bench handed in is accepted, or refused with one number of document 01
 -- and its place."
-use Rattle.std.specs.Prelude.{ℕ, ◌≡◌, Bool, true, false, ◌||◌, List, [], ◌∷◌, ◌++◌, eqb, if◌then◌else◌, Result, Ok, Err, ⊤}
+use Rattle.std.specs.Prelude.{ℕ, ◌≡◌, Bool, true, false, ◌||◌, List, [], ◌∷◌, ◌++◌, eqb, if◌then◌else◌, Result, Ok, Err}
 use Rattle.words.specs.Paper.{Paper, no_refusal}
-use Rattle.bits.specs.declared.Ports.{Ports}
-use Rattle.checker.specs.declared.CheckError.{CheckError}
-use Rattle.fitting.specs.declared.PairError.{PairError}
-use Rattle.reader.specs.declared.Job.{Job}
-use Rattle.reader.specs.declared.Mapping.{Mapping}
 use Rattle.verdict.specs.declared.Verdict.{Verdict}
 use Rattle.words.specs.declared.Refusal.{Refusal}
 use Rattle.verdict.specs.declared.Verdict.TheVariants as verdict
-use Rattle.fitting.specs.declared.PairError.TheVariants as priced
-use Rattle.checker.specs.declared.CheckError.TheVariants as checked
-use Rattle.bench.specs.declared.Answer as bench
-use Rattle.bench.specs.declared.Answer.TheVariants as call
 
 -- a number stands in a list
 abbrev pub among : List ℕ → ℕ → Bool
@@ -69,17 +60,9 @@ bench_price_numbers = 20 ∷ []
 abbrev pub finish_numbers : List ℕ
 finish_numbers = 20 ∷ 22 ∷ 23 ∷ []
 
--- ---- which answers accept: each that is `Ok`, but for a judgement and the bench's calls
+-- ---- which answers accept: each that is `Ok`, but for a judgement
 
 abbrev pub judge_accepts : Result Verdict Refusal → Bool
 judge_accepts (Ok verdict.Right) = true
 judge_accepts (Ok (verdict.Wrong v)) = false
 judge_accepts (Err r) = false
-
--- of the bench's calls
-abbrev pub call_accepts : bench.Answer → Bool
-call_accepts call.Done = true
-call_accepts (call.Count n) = true
-call_accepts (call.Mapping n) = true
-call_accepts (call.Refused r) = false
-call_accepts (call.Wrong v) = false

@@ -13,14 +13,14 @@ use Rattle.checker.specs.Check.{Checks}
 use Rattle.checker.specs.Check as checker
 use Rattle.checker.specs.declared.CheckError.{CheckError}
 use Rattle.soundness.specs.Sound.{nothing, sources_on, glue_on}
-use Rattle.bench.specs.Calls.{sound_bench, bindings_on, holding, opened, open_of, Binds, release_of, price_of, mapping_on, finish_of, lent_after_finish, paper_of}
+use Rattle.bench.specs.Calls.{sound_bench, bindings_on, holding, opened, open_of, Binds, release_of, price_of, mapping_on, finish_of, lent_after_finish, paper_of, number_paper_of}
 use Rattle.bench.specs.declared.Bench.{Bench}
 use Rattle.bench.specs.declared.After.{After}
 
 -- what the calls come to from opening a job's words on, whatever they answer
 pub data Reached (ws : List ℕ) : Bench → Type 0 where
   opening : Reached ws (open_of ws).bench
-  binding : {b : Bench} (w : ℕ) (r : After) → Reached ws b → Binds b w r → Reached ws r.bench
+  binding : {b : Bench} (w : ℕ) (r : After ⊤) → Reached ws b → Binds b w r → Reached ws r.bench
   releasing : {b : Bench} (f : ℕ) → Reached ws b → Reached ws (release_of b f).bench
   pricing : {b : Bench} → Reached ws b → Reached ws (price_of b).bench
   finishing : {b : Bench} (lent : List ℕ) → Reached ws b → Reached ws (finish_of b lent).bench
@@ -34,11 +34,11 @@ pub record BenchOf (ws : List ℕ) (job : Job) (b : Bench) : Type 0 where
 -- these words are bound one after another, and every bind is accepted
 abbrev pub BindsAll : Bench → List ℕ → Bench → Type 0
 BindsAll b [] end = end ≡ b
-BindsAll b (w ∷ ws) end = (r : After) × (Binds b w r × ((paper_of r.answer ≡ accepted []) × BindsAll r.bench ws end))
+BindsAll b (w ∷ ws) end = (r : After ⊤) × (Binds b w r × ((paper_of r.answer ≡ accepted []) × BindsAll r.bench ws end))
 
 -- the mapping of a bench is written, and the checker accepts it with the job
 pub record Finishes (ws : List ℕ) (job : Job) (b : Bench) (lent : List ℕ) : Type 0 where
-  pub answer : paper_of (finish_of b lent).answer ≡ accepted (words_needed job.sources ∷ [])
+  pub answer : number_paper_of (finish_of b lent).answer ≡ accepted (words_needed job.sources ∷ [])
   pub bench_after : (finish_of b lent).bench ≡ b
   pub lent_after : lent_after_finish b lent ≡ mapping_on b ++ drop (words_needed job.sources) lent
   pub accepted_with_job : (r : Result ⊤ CheckError) → Checks ws (mapping_on b) r → checker.paper_of r ≡ accepted []
@@ -80,10 +80,10 @@ pub record Removes (b : Bench) (f : ℕ) (after : Bench) : Type 0 where
 
 -- "20. Bench not sound; place 0. Before all others.": every call that takes the bench is refused so, whatever else is handed in
 pub record RefusesAll (b : Bench) : Type 0 where
-  pub binds : (w : ℕ) (r : After) → Binds b w r → paper_of r.answer ≡ refused 20 0
+  pub binds : (w : ℕ) (r : After ⊤) → Binds b w r → paper_of r.answer ≡ refused 20 0
   pub releases : (f : ℕ) → paper_of (release_of b f).answer ≡ refused 20 0
-  pub prices : paper_of (price_of b).answer ≡ refused 20 0
-  pub finishes : (lent : List ℕ) → paper_of (finish_of b lent).answer ≡ refused 20 0
+  pub prices : number_paper_of (price_of b).answer ≡ refused 20 0
+  pub finishes : (lent : List ℕ) → number_paper_of (finish_of b lent).answer ≡ refused 20 0
 
 -- words read back to a bench's bindings and count
 pub record ReadsBack (b : Bench) (words : List ℕ) : Type 0 where

@@ -19,8 +19,8 @@ pub fn of_evaluation(evaluation: Result<Ports, Refusal>) -> Report
     ensures { result ≡ D.report_of (E.paper_of evaluation) }
 {
     match evaluation {
-        Ok(ports) => report::shown(ports),
-        Err(refusal) => report::refused(refusal),
+        Ok(ports) => Report::from(ports),
+        Err(refusal) => Report::from(refusal),
     }
 }
 
@@ -32,7 +32,7 @@ pub fn of_price(priced: Result<u32, PairError>) -> Report
         Ok(count) => report::with_value(report::NONE, count as u64),
         Err(PairError::JobRefused(refusal)) => report::with_value(refusal, 0),
         Err(PairError::MappingRefused(refusal)) => report::with_value(refusal, 1),
-        Err(PairError::Refused(refusal)) => report::refused(refusal),
+        Err(PairError::Refused(refusal)) => Report::from(refusal),
     }
 }
 
@@ -42,7 +42,7 @@ pub fn of_mapping(answer: Result<usize, Refusal>) -> Report
 {
     match answer {
         Ok(words) => report::with_value(report::NONE, words as u64),
-        Err(refusal) => report::refused(refusal),
+        Err(refusal) => Report::from(refusal),
     }
 }
 
@@ -51,20 +51,11 @@ pub fn of_check(checked: Result<(), CheckError>) -> Report
     ensures { result ≡ D.report_of (C.paper_of checked) }
 {
     match checked {
-        Ok(()) => report::refused(report::NONE),
+        Ok(()) => Report::from(report::NONE),
         Err(CheckError::JobRefused(refusal)) => report::with_value(refusal, 0),
         Err(CheckError::MappingRefused(refusal)) => report::with_value(refusal, 1),
-        Err(CheckError::Refused(refusal)) => report::refused(refusal),
-        Err(CheckError::Wrong(witness)) => report::wrong(witness),
-    }
-}
-
-fn of_verdict(verdict: Verdict) -> Report
-    ensures { result ≡ D.report_of (J.verdict_paper verdict) }
-{
-    match verdict {
-        Verdict::Right => report::refused(report::NONE),
-        Verdict::Wrong(witness) => report::wrong(witness),
+        Err(CheckError::Refused(refusal)) => Report::from(refusal),
+        Err(CheckError::Wrong(witness)) => Report::from(witness),
     }
 }
 
@@ -73,7 +64,8 @@ pub fn of_judgement(judgement: Result<Verdict, Refusal>) -> Report
     ensures { result ≡ D.report_of (J.judgement_paper judgement) }
 {
     match judgement {
-        Ok(verdict) => of_verdict(verdict),
-        Err(refusal) => report::refused(refusal),
+        Ok(Verdict::Right) => Report::from(report::NONE),
+        Ok(Verdict::Wrong(witness)) => Report::from(witness),
+        Err(refusal) => Report::from(refusal),
     }
 }

@@ -1,21 +1,24 @@
 -- The entries of a bench, one for each source in table order: where a source's is, whether something is bound to it, and the first in
 -- which nothing stands.
-use Rattle.std.specs.Prelude.{ℕ, ◌+◌, Bool, not, List, [], ◌∷◌, eqb, get_or, if◌then◌else◌}
+use Rattle.std.specs.Prelude.{ℕ, Bool, false, not, Option, None, Some, List, [], ◌∷◌, eqb, get_or, position, if◌then◌else◌}
 use Rattle.words.specs.Field.{source_function}
-use Rattle.alu.specs.Function.{no_function}
 use Rattle.soundness.specs.Sound.{nothing}
 
--- the entry of the source whose function it is; the number of sources where there is none
-unfoldable pub entry_of : List ℕ → ℕ → ℕ
-entry_of [] f = 0
-entry_of (s ∷ ss) f = if eqb (source_function s) f then 0 else entry_of ss f + 1
+-- the entry of the source whose function it is
+abbrev pub entry_of : List ℕ → ℕ → Option ℕ
+entry_of sources f = position (λ s. eqb (source_function s) f) sources
+
+-- something stands in an entry
+abbrev pub holds_one : List ℕ → Option ℕ → Bool
+holds_one bound None = false
+holds_one bound (Some i) = not (eqb (get_or bound i nothing) nothing)
 
 -- something is bound to a function: it stands in the entry of its source
 unfoldable pub is_bound : List ℕ → List ℕ → ℕ → Bool
-is_bound sources bound f = not (eqb (get_or bound (entry_of sources f) nothing) nothing)
+is_bound sources bound f = holds_one bound (entry_of sources f)
 
--- the function of the first source, which is the lowest, with nothing bound; `no_function` for none
-unfoldable pub first_empty : List ℕ → List ℕ → ℕ
-first_empty [] bound = no_function
-first_empty (s ∷ ss) [] = no_function
-first_empty (s ∷ ss) (w ∷ bound) = if eqb w nothing then source_function s else first_empty ss bound
+-- the function of the first source, which is the lowest, with nothing bound
+unfoldable pub first_empty : List ℕ → List ℕ → Option ℕ
+first_empty [] bound = None
+first_empty (s ∷ ss) [] = None
+first_empty (s ∷ ss) (w ∷ bound) = if eqb w nothing then Some (source_function s) else first_empty ss bound

@@ -3,8 +3,7 @@
 
 mod lookup;
 
-ghost use Rattle.std.specs.Prelude.{◌≡◌, true, ◌≤◌};
-ghost use Rattle.sequence.specs.Limits.{most_sources};
+ghost use Rattle.std.specs.Prelude.{◌≡◌, true};
 ghost use Rattle.verdict.specs.Verdicts as D;
 ghost use Rattle.table.specs.Table as T;
 ghost use Rattle.claims.specs.Claim as C;
@@ -27,10 +26,10 @@ pub fn in_tables(tables: Tables, word: u32) -> bool
     table::in_job(&sources[..nsources], &targets[..ntargets], word)
 }
 
-// The entry of the source whose function it is, or the number of sources.
-pub fn entry_for(tables: Tables, function: u32) -> usize
+// The entry of the source whose function it is.
+pub fn entry_for(tables: Tables, function: u32) -> Option<usize>
     requires { S.tables_sound tables ≡ true }
-    ensures { (result ≡ E.entry_of (S.sources_on tables) function) × (result ≤ most_sources) }
+    ensures { result ≡ E.entry_of (S.sources_on tables) function }
 {
     let sources = tables.sources;
     let nsources = tables.nsources as usize;
@@ -42,11 +41,10 @@ pub fn is_bound(tables: Tables, bound: [u32; MOST_SOURCES], function: u32) -> bo
     requires { S.tables_sound tables ≡ true }
     ensures { result ≡ E.is_bound (S.sources_on tables) bound function }
 {
-    let entry = entry_for(tables, function);
-    if entry < MOST_SOURCES {
-        return bound[entry] != NOTHING;
+    match entry_for(tables, function) {
+        Some(entry) => bound[entry] != NOTHING,
+        None => false,
     }
-    false
 }
 
 // The verdict on a rule under the tables: refusal 10.
@@ -66,8 +64,8 @@ pub fn verdict_on(tables: Tables, word: u32) -> Verdict
     )
 }
 
-// The function of the first source with nothing bound, or NO_FUNCTION.
-pub fn unbound_on(tables: Tables, bound: [u32; MOST_SOURCES]) -> u32
+// The function of the first source with nothing bound.
+pub fn unbound_on(tables: Tables, bound: [u32; MOST_SOURCES]) -> Option<u32>
     requires { S.tables_sound tables ≡ true }
     ensures { result ≡ E.first_empty (S.sources_on tables) bound }
 {

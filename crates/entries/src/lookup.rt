@@ -4,27 +4,24 @@ ghost use Rattle.entries.specs.Entries as E;
 
 use soundness::NOTHING;
 
-// The entry of the source whose function it is, or the number of sources.
-pub fn entry_of(sources: &[u32], function: u32) -> usize
+// The entry of the source whose function it is.
+pub fn entry_of(sources: &[u32], function: u32) -> Option<usize>
     ensures { result ≡ E.entry_of sources.now function }
 {
-    for (i, source) in sources.iter().enumerate() {
-        if words::source_function(*source) == function {
-            return i;
-        }
-    }
-    sources.len()
+    sources
+        .iter()
+        .position(|source| words::source_function(*source) == function)
 }
 
-// The function of the first source with nothing bound, or NO_FUNCTION.
-pub fn first_empty(sources: &[u32], bound: &[u32]) -> u32
+// The function of the first source with nothing bound.
+pub fn first_empty(sources: &[u32], bound: &[u32]) -> Option<u32>
     requires { length sources.now ≤ length bound.now }
     ensures { result ≡ E.first_empty sources.now bound.now }
 {
     for (i, source) in sources.iter().enumerate() {
         if bound[i] == NOTHING {
-            return words::source_function(*source);
+            return Some(words::source_function(*source));
         }
     }
-    alu::NO_FUNCTION
+    None
 }

@@ -15,7 +15,6 @@ fn read_of(bytes: usize, words: usize) -> Input
         kept: whole.min(words),
         whole,
         cut: bytes % 4 != 0,
-        failed: false,
     }
 }
 
@@ -24,7 +23,9 @@ pub fn map(rt: &HostRuntime, job: &[u32], bytes: usize) {
     let kept = input.kept;
     let mut lent = [0u32; MOST_MAPPING_WORDS];
     let mut out = [0u8; MOST_TEXT_BYTES];
-    let said = map_answers::map_input(&job[..kept], input, &mut lent, &mut out);
+    let Ok(said) = map_answers::map_input(&job[..kept], Ok(input), &mut lent, &mut out) else {
+        return;
+    };
     let end = said.bytes;
     console::print(rt, &out[..end]);
 }
@@ -33,7 +34,7 @@ pub fn open(rt: &HostRuntime, job: &[u32], bytes: usize) {
     let input = read_of(bytes, job.len());
     let kept = input.kept;
     let mut out = [0u8; bench_answers::MOST_TEXT_BYTES];
-    let opened = bench_answers::open(&job[..kept], input, &mut out);
+    let opened = bench_answers::open(&job[..kept], Ok(input), &mut out);
     let end = opened.bytes;
     console::print(rt, &out[..end]);
 }
@@ -50,6 +51,12 @@ pub fn check(
     let kept = first.kept;
     let bound = second.kept;
     let mut out = [0u8; MOST_LINE_BYTES];
-    let end = check_answers::check_inputs(&job[..kept], first, &mapping[..bound], second, &mut out);
+    let end = check_answers::check_inputs(
+        &job[..kept],
+        Ok(first),
+        &mapping[..bound],
+        Ok(second),
+        &mut out,
+    );
     console::print(rt, &out[..end]);
 }

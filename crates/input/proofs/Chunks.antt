@@ -1,26 +1,20 @@
 -- What the system's answers to reads come to: the bytes of a file, kept as far as there is room.
-use mathlib.Core.Path.{◌≡◌, refl, sym, ap, subst, ◌∙◌}
-use mathlib.Core.Bool.{Bool, true, false, true≢false}
+use mathlib.Core.Path.{◌≡◌, refl, sym, ap, ◌∙◌}
+use mathlib.Core.Bool.{Bool, true, false}
 use mathlib.Core.List.{List, [], ◌++◌}
-use Prim.Native.Nat.{ℕ, ◌+◌, ◌-◌, ◌≤◌, ◌<◌}
+use Prim.Native.Nat.{ℕ, ◌+◌, ◌-◌, ◌≤◌}
 use native.Mathlib.Nat.{zero-add}
 use native.Mathlib.Omega.{arith}
-use borrow.Author.Tests.{eqb-false, ltb-true, ltb-false}
-use lib.Dec.{eqb, ltb}
-use lib.IntN.{ℤ, pos, negsuc, nat_abs}
+use borrow.Author.Tests.{ltb-true, ltb-false}
+use lib.Dec.{ltb}
 use lib.ListN.{length, take, drop, length-append, length-take}
-use lib.Seq.{sets, sets-eq, take-nil, take_all, length-take-le, take-append-le, take-append-add, take-append_seam}
-use lib.Signed.{lt_z}
-use mir.Syntax.{w64}
-use mir.Val.{SFits, to_z, of_z}
-use mir.Facts.{to_z-of_z}
+use lib.Seq.{sets, sets-eq, take-nil, take_all, take-append-le, take-append-add, take-append_seam}
 use Rattle.words.proofs.Choices.{either}
 use Rattle.words.proofs.Copies.{sets-append}
 use Rattle.files.specs.Files.{words_of}
-use Rattle.input.specs.Read.{kept_words, kept_bytes, least, input_of, Read}
+use Rattle.input.specs.Read.{kept_words, kept_bytes, least, input_of, ReadToEnd}
 use Rattle.input.specs.Kept.{BringsBytes, Keeps}
 use Rattle.input.specs.declared.Input.{Input}
-use Rattle.input.specs.declared.Progress.{Progress}
 
 -- ---- one read after another
 
@@ -74,28 +68,27 @@ kept_back k f =
     ap (λ (n : ℕ). take n (sets k 0 (take (length k) f))) (least_is f (length k))
     ∙ start_kept (take (length k) f) k (omega (arith, length-take (length k) f))
 
-pub all_read : (zeros bytes words after : List ℕ) (p : Progress) (r : Input) → Keeps zeros bytes p.bytes → length zeros ≡ kept_bytes
-    → r ≡ input_of p.bytes p.failed → after ≡ sets words 0 (words_of (take (least p.bytes kept_bytes) bytes)) → Read words after r
-all_read zeros bytes words after p r k l e w =
+pub all_read : (zeros bytes words after : List ℕ) (size : ℕ) (r : Input) → Keeps zeros bytes size → length zeros ≡ kept_bytes
+    → r ≡ input_of size → after ≡ sets words 0 (words_of (take (least size kept_bytes) bytes)) → ReadToEnd words after r
+all_read zeros bytes words after size r k l e w =
     record {
       file = k.file;
-      failed = p.failed;
-      same = e ∙ ap (λ (n : ℕ). input_of n p.failed) k.size;
+      same = e ∙ ap input_of k.size;
       kept = w ∙ ap (λ (m : List ℕ). sets words 0 (words_of m)) start;
     }
   where
-    start : take (least p.bytes kept_bytes) bytes ≡ take kept_bytes k.file
+    start : take (least size kept_bytes) bytes ≡ take kept_bytes k.file
     start =
         ap (λ (n : ℕ). take (least n kept_bytes) bytes) k.size
         ∙ ap (λ (m : List ℕ). take (least (length k.file) kept_bytes) m) k.kept_first
         ∙ ap (λ (n : ℕ). take (least (length k.file) n) (sets zeros 0 (take (length zeros) k.file))) (sym l)
         ∙ kept_back zeros k.file ∙ ap (λ (n : ℕ). take n k.file) l
 
-pub few_kept : (p : Progress) (r : Input) → r ≡ input_of p.bytes p.failed → r.kept ≤ kept_words
-few_kept p r e =
+pub few_kept : (size : ℕ) (r : Input) → r ≡ input_of size → r.kept ≤ kept_words
+few_kept size r e =
     omega (
       arith,
       ap (λ (i : Input). i.kept) e,
-      either (λ (m : ℕ). m ≤ kept_bytes) (ltb p.bytes kept_bytes) {x = p.bytes} {y = kept_bytes}
-          (λ q. let h = ltb-true p.bytes kept_bytes q in omega arith) (λ _. omega arith),
+      either (λ (m : ℕ). m ≤ kept_bytes) (ltb size kept_bytes) {x = size} {y = kept_bytes}
+          (λ q. let h = ltb-true size kept_bytes q in omega arith) (λ _. omega arith),
     )

@@ -10,7 +10,10 @@ use lib.Seq.{sets, take_all}
 use Rattle.words.proofs.Lists.{start_length}
 use Rattle.text.specs.Text.{Puts}
 use Rattle.files.specs.Files.{words_of}
-use Rattle.input.specs.Read.{kept_words, kept_bytes, least, input_of}
+use Rattle.std.specs.Prelude.{Result, Ok, Err, IfOk}
+use Rattle.console.specs.declared.Failed.{Failed}
+use Rattle.input.specs.declared.Input.{Input}
+use Rattle.input.specs.Read.{kept_words, kept_bytes, least, input_of, kept_in}
 
 pub part_length : (l : List ℕ) (n : ℕ) → n < length l → n ≡ length (take n l)
 part_length l n h = start_length l n (omega arith)
@@ -35,13 +38,20 @@ module _ (n : ℕ) (bytes : List ℕ) (h : n ≤ kept_bytes) (e : length bytes �
   pub words_fit : (words : List ℕ) → kept_words ≤ length words → length (take n bytes) / 4 ≤ length words
   words_fit words w = omega (arith, array_start n kept_bytes bytes h e)
 
-  pub input_read : (size k whole : ℕ) (cut fails failed : Bool) → n ≡ least size kept_bytes → k ≡ length (take n bytes) / 4
-      → whole ≡ size / 4 → cut ≡ not (eqb (size % 4) 0) → fails ≡ failed
-      → record { kept = k; whole = whole; cut = cut; failed = fails } ≡ input_of size failed
-  input_read size k whole cut fails failed m w p q r =
+  pub input_read : (size k whole : ℕ) (cut : Bool) → n ≡ least size kept_bytes → k ≡ length (take n bytes) / 4
+      → whole ≡ size / 4 → cut ≡ not (eqb (size % 4) 0)
+      → record { kept = k; whole = whole; cut = cut } ≡ input_of size
+  input_read size k whole cut m w p q =
       let u : k ≡ least size kept_bytes / 4 = w ∙ ap (λ (x : ℕ). x / 4) (sym (array_start n kept_bytes bytes h e) ∙ m) in
-      λ i. record { kept = u i; whole = p i; cut = q i; failed = r i }
+      λ i. record { kept = u i; whole = p i; cut = q i }
 
   pub words_same : (size : ℕ) (words after : List ℕ) → n ≡ least size kept_bytes → after ≡ sets words 0 (words_of (take n bytes))
       → after ≡ sets words 0 (words_of (take (least size kept_bytes) bytes))
   words_same size words after m w = w ∙ ap (λ (x : ℕ). sets words 0 (words_of (take x bytes))) m
+
+-- ---- the words that were kept of a file
+
+pub kept_within : (r : Result Input Failed) (size : ℕ) (l : List ℕ) (n : ℕ) → IfOk r (λ i. i.kept ≤ size) → length l ≡ size → n ≡ kept_in r
+    → n ≡ length (take n l)
+kept_within (Ok i) size l n few e k = array_start n size l (omega arith) e
+kept_within (Err f) size l n few e k = array_start n size l (omega arith) e

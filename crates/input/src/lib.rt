@@ -23,20 +23,12 @@ const CHUNK: usize = 4096;
 // More bytes than a file has.
 const MOST: usize = 4611686018427387904;
 
-// What was read: how many words were kept, the whole words of the file, whether a last word is cut short, and whether a read failed.
+// What was read: how many words were kept, the whole words of the file, and whether a last word is cut short.
 #[derive(Clone, Copy)]
 pub struct Input {
     pub kept: usize,
     pub whole: usize,
     pub cut: bool,
-    pub failed: bool,
-}
-
-// How many bytes were read, and whether a read failed behind them.
-#[derive(Clone, Copy)]
-struct Progress {
-    bytes: usize,
-    failed: bool,
 }
 
 fn least(a: usize, b: usize) -> usize
@@ -95,59 +87,62 @@ fn read_some<S: Read>(
     Ok(count)
 }
 
-// Reads to the end of the file, or until a read fails.
-fn read_bytes<S: Read>(rt: &HostRuntime, reader: &mut S, name: &[u8], kept: &mut [u8]) -> Progress
-    ensures { K.Keeps kept.old kept.new result.bytes }
+// Reads to the end of the file, and answers how many bytes it has.
+fn read_bytes<S: Read>(
+    rt: &HostRuntime,
+    reader: &mut S,
+    name: &[u8],
+    kept: &mut [u8],
+) -> Result<usize, Failed>
+    ensures { IfOk result (λ bytes. K.Keeps kept.old kept.new bytes) }
 {
     let mut bytes = 0;
     while bytes < MOST {
-        let Ok(count) = read_some(rt, reader, name, kept, bytes) else {
-            return Progress {
-                bytes,
-                failed: true,
-            };
-        };
+        let count = read_some(rt, reader, name, kept, bytes)?;
         if count == 0 {
             break;
         }
         bytes += count;
     }
-    Progress {
-        bytes,
-        failed: false,
-    }
+    Ok(bytes)
 }
 
-// The words of the bytes that were kept, and what was read.
-fn words_read(bytes: &[u8], read: Progress, words: &mut [u32]) -> Input
+// The words of the bytes that were kept of so many, and what was read.
+fn words_read(bytes: &[u8], size: usize, words: &mut [u32]) -> Input
     requires { (length bytes.now ≡ R.kept_bytes) × (R.kept_words ≤ length words.old) }
-    ensures read { result ≡ R.input_of read.bytes read.failed }
-    ensures words { words.new ≡ sets words.old 0 (F.words_of (take (R.least read.bytes R.kept_bytes) bytes.now)) }
+    ensures read { result ≡ R.input_of size }
+    ensures words { words.new ≡ sets words.old 0 (F.words_of (take (R.least size R.kept_bytes) bytes.now)) }
 {
-    let n = least(read.bytes, KEPT_BYTES);
+    let n = least(size, KEPT_BYTES);
     let kept = files::words_of(&bytes[..n], words);
     Input {
         kept,
-        whole: read.bytes / 4,
-        cut: read.bytes % 4 != 0,
-        failed: read.failed,
+        whole: size / 4,
+        cut: size % 4 != 0,
     }
 }
 
-// Reads words to the end of a reader. A read that fails is said on standard error, by the reader's name.
+// Reads words to the end of a reader. A read that fails is said on standard error, by the reader's name, and leaves the lent words as they were.
 pub fn read_words<S: Read>(
     rt: &HostRuntime,
     reader: &mut S,
     name: &[u8],
     words: &mut [u32],
-) -> Input
+) -> Result<Input, Failed>
     requires { R.kept_words ≤ length words.old }
-    ensures few { result.kept ≤ R.kept_words }
+    ensures few { IfOk result (λ input. input.kept ≤ R.kept_words) }
     ensures read { R.Read words.old words.new result }
 {
     let mut bytes = [0u8; KEPT_BYTES];
-    let read = read_bytes(rt, reader, name, &mut bytes);
-    words_read(&bytes, read, words)
+    let size = read_bytes(rt, reader, name, &mut bytes)?;
+    Ok(words_read(&bytes, size, words))
+}
+
+// How many words were kept: none of a file that could not be read.
+pub fn kept(input: Result<Input, Failed>) -> usize
+    ensures { result ≡ R.kept_in input }
+{
+    input.map_or(0, |read| read.kept)
 }
 
 // Opens a file for reading. Its name is text.
@@ -159,9 +154,9 @@ pub fn open(rt: &HostRuntime, path: &[u8]) -> Result<File, Error> {
 }
 
 // Reads the file that an argument names, or says why it cannot.
-pub fn read_file(rt: &HostRuntime, argument: usize, words: &mut [u32]) -> Input
+pub fn read_file(rt: &HostRuntime, argument: usize, words: &mut [u32]) -> Result<Input, Failed>
     requires { R.kept_words ≤ length words.old }
-    ensures { result.kept ≤ R.kept_words }
+    ensures { IfOk result (λ input. input.kept ≤ R.kept_words) }
 {
     let mut path = [0u8; arguments::MOST_BYTES];
     let length = arguments::put_argument(rt, argument, &mut path);
@@ -169,12 +164,7 @@ pub fn read_file(rt: &HostRuntime, argument: usize, words: &mut [u32]) -> Input
         Ok(mut file) => read_words(rt, &mut file, &path[..length], words),
         Err(why) => {
             console::fail(rt, &path[..length], why);
-            Input {
-                kept: 0,
-                whole: 0,
-                cut: false,
-                failed: true,
-            }
+            Err(Failed)
         }
     }
 }

@@ -1,11 +1,11 @@
 -- From the judgement at a width to that at every width.
-use mathlib.Core.Path.{◌≡◌, refl, ap, ◌∙◌, subst}
+use mathlib.Core.Path.{◌≡◌, refl, subst}
 use mathlib.Core.Bool.{Bool, true, false, not}
 use Prim.Native.Nat.{ℕ, ◌+◌, ◌≤◌, ◌<◌}
 use native.Mathlib.Omega.{arith}
 use lib.Dec.{eqb, ltb}
 use borrow.Author.Tests.{le-leb, le-ltb, ltb-true, ltb-false}
-use Rattle.std.specs.Prelude.{if◌then◌else◌, Result, Ok, Err}
+use Rattle.std.specs.Prelude.{if◌then◌else◌, Some, Ok, Err}
 use Rattle.words.specs.Field.{kind_of}
 use Rattle.words.specs.Kinds.{is_recipe}
 use Rattle.words.specs.Paper.{no_refusal}
@@ -19,7 +19,6 @@ use Rattle.verdict.specs.Verdicts.{Refuses, Decides, judge_of, Passes, Judged}
 use Rattle.verdict.specs.declared.Verdict.{Verdict}
 use Rattle.verdict.specs.declared.Verdict.TheVariants.{Right as IsRight, Wrong as IsWrong}
 use Rattle.judge_answers.specs.Everywhere.{RightBelow, JudgedEverywhere}
-use Rattle.judge_answers.specs.declared.Everywhere.TheVariants.{Wrong, Refused}
 
 width_of : (n : ℕ) → 1 ≤ n → n ≤ 64 → is_width n ≡ true
 unfolding is_width
@@ -39,25 +38,25 @@ refused-alike w n r e p =
     rw (width_of 1 (omega arith) (omega arith))
     (alike n (not (is_recipe (kind_of w))) (not (eqb (recipe_fault w) no_refusal)) _ _ r (claim_of w) (rw e at p))
 
-module _ (w n : ℕ) (l : 1 ≤ n) (m : n ≤ 64) (j : Result Verdict Refusal) (p : Judged w n j) where
-  judged_as : (k : Result Verdict Refusal) → j ≡ k → Judged w n k
-  judged_as k e = subst (Judged w n) e p
+module _ (w n : ℕ) (l : 1 ≤ n) (m : n ≤ 64) where
+  pub refused-everywhere : (r : Refusal) → Judged w n (Err r) → JudgedEverywhere w (Err r)
+  refused-everywhere r p = refused-alike w n r (width_of n l m) p
 
-  pub refused-everywhere : (r : Refusal) → j ≡ Err r → JudgedEverywhere w (Refused r)
-  refused-everywhere r e = refused-alike w n r (width_of n l m) (judged_as (Err r) e)
+  module _ (below : RightBelow w n) (v : Verdict) (p : Judged w n (Ok v)) where
+    judged_as : (u : Verdict) → v ≡ u → Judged w n (Ok u)
+    judged_as u e = subst (λ (x : Verdict). Judged w n (Ok x)) e p
 
-  module _ (below : RightBelow w n) (v : Verdict) (e : j ≡ Ok v) where
-    pub wrong_first : (x : Witness) → v ≡ IsWrong x → JudgedEverywhere w (Wrong n x)
-    wrong_first x f = (l, m, below, judged_as (Ok (IsWrong x)) (e ∙ ap Ok f))
+    pub wrong_first : (x : Witness) → v ≡ IsWrong x → JudgedEverywhere w (Ok (Some (record { width = n; witness = x })))
+    wrong_first x e = (l, m, below, judged_as (IsWrong x) e)
 
     pub right_more : v ≡ IsRight → RightBelow w (n + 1)
-    right_more f k least less = go (ltb k n) refl
+    right_more e k least less = go (ltb k n) refl
       where
         go : (b : Bool) → ltb k n ≡ b → Judged w k (Ok IsRight)
         go true t = below k least (ltb-true k n t)
         go false t =
             let s : n ≡ k = omega (arith, ltb-false k n t) in
-            subst (λ (i : ℕ). Judged w i (Ok IsRight)) s (judged_as (Ok IsRight) (e ∙ ap Ok f))
+            subst (λ (i : ℕ). Judged w i (Ok IsRight)) s (judged_as IsRight e)
 
 pub right_at_none : (w : ℕ) → RightBelow w 1
 right_at_none w k least less = absurd (omega arith)

@@ -1,5 +1,5 @@
 -- The lines of judge_rule: the word, then RIGHT, or WRONG and where, or the refusal.
-use Rattle.std.specs.Prelude.{ℕ, List, ◌++◌, Result, Ok, Err}
+use Rattle.std.specs.Prelude.{ℕ, List, ◌++◌, Option, Some, None, Result, Ok, Err}
 use Rattle.text.specs.Text.{Puts, bytes, hexadecimal, labelled}
 use Rattle.lines.specs.Lines.{refusal_text, witness_text}
 use Rattle.verdict.specs.Verdicts.{Judged}
@@ -7,8 +7,7 @@ use Rattle.verdict.specs.declared.Verdict.TheVariants.{Right as IsRight, Wrong a
 use Rattle.verdict.specs.declared.Verdict.{Verdict}
 use Rattle.words.specs.declared.Refusal.{Refusal}
 use Rattle.judge_answers.specs.Everywhere.{JudgedEverywhere}
-use Rattle.judge_answers.specs.declared.Everywhere.{Everywhere}
-use Rattle.judge_answers.specs.declared.Everywhere.TheVariants.{Right, Wrong, Refused}
+use Rattle.judge_answers.specs.declared.WrongAt.{WrongAt}
 
 -- what stands behind the word
 abbrev pub judgement_text : Result Verdict Refusal → List ℕ
@@ -17,10 +16,10 @@ judgement_text (Ok (IsWrong v)) = bytes " WRONG" ++ witness_text v ++ bytes "\n"
 judgement_text (Err r) = bytes " " ++ refusal_text r ++ bytes "\n"
 
 -- at every width
-abbrev pub everywhere_text : Everywhere → List ℕ
-everywhere_text Right = bytes " RIGHT\n"
-everywhere_text (Wrong n v) = labelled (bytes " WRONG WIDTH ") n ++ witness_text v ++ bytes "\n"
-everywhere_text (Refused r) = bytes " " ++ refusal_text r ++ bytes "\n"
+abbrev pub everywhere_text : Result (Option WrongAt) Refusal → List ℕ
+everywhere_text (Ok None) = bytes " RIGHT\n"
+everywhere_text (Ok (Some x)) = labelled (bytes " WRONG WIDTH ") x.width ++ witness_text x.witness ++ bytes "\n"
+everywhere_text (Err r) = bytes " " ++ refusal_text r ++ bytes "\n"
 
 -- the line of a word judged at a width is put, at the start of lent bytes
 pub record SaysAt (w n : ℕ) (out after : List ℕ) (end : ℕ) : Type 0 where
@@ -30,6 +29,6 @@ pub record SaysAt (w n : ℕ) (out after : List ℕ) (end : ℕ) : Type 0 where
 
 -- and of one judged at every width
 pub record SaysEverywhere (w : ℕ) (out after : List ℕ) (end : ℕ) : Type 0 where
-  pub answer : Everywhere
+  pub answer : Result (Option WrongAt) Refusal
   pub judged : JudgedEverywhere w answer
   pub text : Puts out 0 (hexadecimal w ++ everywhere_text answer) after end

@@ -1,41 +1,34 @@
 // What judge_rule says of a word: its judgement at a width, or at every width, as a line put into lent bytes.
 #![tactic(auto)]
 
-ghost use Rattle.std.specs.Prelude.{◌≤◌, length, Ok, Err};
+ghost use Rattle.std.specs.Prelude.{◌≤◌, length, Ok, Err, Some};
 ghost use Rattle.text.specs.Text as P;
 ghost use Rattle.lines.specs.Lines as L;
 ghost use Rattle.verdict.specs.declared.Verdict.TheVariants as D;
-ghost use Rattle.judge_answers.specs.declared.Everywhere.TheVariants as O;
 ghost use Rattle.judge_answers.specs.Everywhere as E;
 ghost use Rattle.judge_answers.specs.Lines as S;
 
 use verdict::Verdict;
 use words::{Refusal, Witness};
 
-// The answer at every width: right at all, wrong with the least width at which it is and operands there, or refused.
+// A width at which a recipe is wrong, and operands there.
 #[derive(Clone, Copy)]
-pub enum Everywhere {
-    Right,
-    Wrong(u32, Witness),
-    Refused(Refusal),
+pub struct WrongAt {
+    width: u32,
+    witness: Witness,
 }
 
-// Judges a recipe word at every width, the least first.
-fn judge_everywhere(word: u32) -> Everywhere
+// Judges a recipe word at every width, the least first: none where it is right at all, or the least at which it is wrong.
+fn judge_everywhere(word: u32) -> Result<Option<WrongAt>, Refusal>
     ensures { E.JudgedEverywhere word result }
 {
     for width in 1..=64 {
-        let judgement = verdict::judge(word, width);
-        match judgement {
-            Err(refusal) => return Everywhere::Refused(refusal),
-            Ok(verdict) => {
-                if let Verdict::Wrong(witness) = verdict {
-                    return Everywhere::Wrong(width, witness);
-                }
-            }
+        let verdict = verdict::judge(word, width)?;
+        if let Verdict::Wrong(witness) = verdict {
+            return Ok(Some(WrongAt { width, witness }));
         }
     }
-    Everywhere::Right
+    Ok(None)
 }
 
 // A refusal behind the word.
@@ -61,26 +54,14 @@ fn put_wrong(witness: Witness, out: &mut [u8], at: usize) -> usize
 }
 
 // The width and a wrong recipe's operands behind the word.
-fn put_wrong_width(width: u32, witness: Witness, out: &mut [u8], at: usize) -> usize
+fn put_wrong_at(wrong: WrongAt, out: &mut [u8], at: usize) -> usize
     requires { (at ≤ 8) × (L.most_line_bytes ≤ length out.old) }
     ensures short { result ≤ L.most_line_bytes }
-    ensures text { P.Puts out.old at (S.everywhere_text (O.Wrong width witness)) out.new result }
+    ensures text { P.Puts out.old at (S.everywhere_text (Ok (Some wrong))) out.new result }
 {
-    let label = text::put_labelled(b" WRONG WIDTH ", width as u64, out, at);
-    let end = lines::put_witness(witness, out, label);
+    let label = text::put_labelled(b" WRONG WIDTH ", wrong.width as u64, out, at);
+    let end = lines::put_witness(wrong.witness, out, label);
     text::put(b"\n", out, end)
-}
-
-// A verdict behind the word.
-fn put_verdict(verdict: Verdict, out: &mut [u8], at: usize) -> usize
-    requires { (at ≤ 8) × (L.most_line_bytes ≤ length out.old) }
-    ensures short { result ≤ L.most_line_bytes }
-    ensures text { P.Puts out.old at (S.judgement_text (Ok verdict)) out.new result }
-{
-    match verdict {
-        Verdict::Right => text::put(b" RIGHT\n", out, at),
-        Verdict::Wrong(witness) => put_wrong(witness, out, at),
-    }
 }
 
 // A judgement behind the word.
@@ -90,21 +71,27 @@ fn put_judgement(judgement: Result<Verdict, Refusal>, out: &mut [u8], at: usize)
     ensures text { P.Puts out.old at (S.judgement_text judgement) out.new result }
 {
     match judgement {
-        Ok(verdict) => put_verdict(verdict, out, at),
+        Ok(Verdict::Right) => text::put(b" RIGHT\n", out, at),
+        Ok(Verdict::Wrong(witness)) => put_wrong(witness, out, at),
         Err(refusal) => put_refused(refusal, out, at),
     }
 }
 
 // The judgement at every width behind the word.
-fn put_everywhere_text(everywhere: Everywhere, out: &mut [u8], at: usize) -> usize
+// Kept: one function for this and put_judgement would take a width that may be lacking, or a closure; no plainer than three arms.
+fn put_everywhere_text(
+    everywhere: Result<Option<WrongAt>, Refusal>,
+    out: &mut [u8],
+    at: usize,
+) -> usize
     requires { (at ≤ 8) × (L.most_line_bytes ≤ length out.old) }
     ensures short { result ≤ L.most_line_bytes }
     ensures text { P.Puts out.old at (S.everywhere_text everywhere) out.new result }
 {
     match everywhere {
-        Everywhere::Right => text::put(b" RIGHT\n", out, at),
-        Everywhere::Wrong(width, witness) => put_wrong_width(width, witness, out, at),
-        Everywhere::Refused(refusal) => put_refused(refusal, out, at),
+        Ok(None) => text::put(b" RIGHT\n", out, at),
+        Ok(Some(wrong)) => put_wrong_at(wrong, out, at),
+        Err(refusal) => put_refused(refusal, out, at),
     }
 }
 

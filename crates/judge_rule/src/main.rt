@@ -40,9 +40,6 @@ fn judge_all(rt: &HostRuntime, widths: Widths) {
 
 // The widths that are asked for.
 fn asked_widths(rt: &HostRuntime) -> Option<Widths> {
-    if arguments::count(rt) != 2 {
-        return None;
-    }
     let mut argument = [0u8; arguments::MOST_BYTES];
     let length = arguments::put_argument(rt, 1, &mut argument);
     arguments::widths_in(&argument[..length])
@@ -52,10 +49,12 @@ fn asked_widths(rt: &HostRuntime) -> Option<Widths> {
 const USAGE: [u8; 73] =
     *b"usage: judge_rule WIDTH < WORDS\nWIDTH is 1 to 64, or all for every width\n";
 
-fn help(rt: &HostRuntime) {
-    console::print(rt, &USAGE);
-    console::print(
-        rt,
+fn main(rt: HostRuntime) {
+    let run = arguments::may_run(
+        &rt,
+        2,
+        2,
+        &USAGE,
         b"\n\
         Prints a line for each rule or binding: RIGHT, WRONG and where it differs from its source function, or the refusal.\n\
         With all, WRONG comes with the least width at which it does. A word is eight hexadecimal digits. Spaces or line\n\
@@ -63,15 +62,11 @@ fn help(rt: &HostRuntime) {
         \n\
         example: echo '5C894407 # LT as the sign of SUB' | judge_rule 8\n",
     );
-}
-
-fn main(rt: HostRuntime) {
-    if arguments::asks_help(&rt) {
-        help(&rt);
+    if !run {
         return;
     }
     match asked_widths(&rt) {
         Some(widths) => judge_all(&rt, widths),
-        None => arguments::usage(&rt, &USAGE),
+        None => console::tell(&rt, &USAGE),
     }
 }

@@ -9,13 +9,13 @@ use borrow.Author.Tests.{ltb-true, ltb-false, lt-ltb, le-ltb}
 use lib.Dec.{eqb, ltb}
 use lib.ListN.{length, take, length-take}
 use lib.Seq.{take_all}
-use Rattle.std.specs.Prelude.{if◌then◌else◌, Err}
+use Rattle.std.specs.Prelude.{if◌then◌else◌, Ok, Err}
 use Rattle.words.specs.Paper.{refusal}
 use Rattle.sequence.specs.Limits.{most_job_words}
 use Rattle.files.specs.Files.{words_of}
 use Rattle.reader.specs.Job.{job_of}
 use Rattle.text.specs.Text.{Puts}
-use Rattle.input.specs.Read.{kept_words, kept_bytes, input_of, Read}
+use Rattle.input.specs.Read.{kept_words, kept_bytes, input_of, ReadToEnd}
 use Rattle.input.specs.declared.Input.{Input}
 use Rattle.input.proofs.Chunks.{least_is, start_kept}
 use Rattle.mapper.specs.Mapping.{answer_of, lent_after_map}
@@ -54,7 +54,7 @@ kept_enough file lent true e =
 
 -- the text for what was kept of a file that was read to its end
 pub says_of_the_bytes : (file lent : List ℕ)
-    → map_text (job_answer (words_of (take kept_bytes file)) (input_of (length file) false) lent) (job_lent (words_of (take kept_bytes file)) (input_of (length file) false) lent)
+    → map_text (job_answer (words_of (take kept_bytes file)) (input_of (length file)) lent) (job_lent (words_of (take kept_bytes file)) (input_of (length file)) lent)
     ≡ job_text file lent
 unfolding job_answer job_lent job_text words_text
 says_of_the_bytes file lent = by_rest (not (eqb (length file % 4) 0))
@@ -68,25 +68,21 @@ says_of_the_bytes file lent = by_rest (not (eqb (length file % 4) 0))
 
 -- ---- what map_job prints: the words that were read of a file, the start of them that was kept, and what is said of these
 
-module _ (words read : List ℕ) (input : Input) (k : Read words read input) (f : k.failed ≡ false) (h : kept_words ≤ length words) where
-  same_input : input ≡ input_of (length k.file) false
-  same_input = k.same ∙ ap (λ (b : Bool). input_of (length k.file) b) f
-
+module _ (words read : List ℕ) (input : Input) (k : ReadToEnd words read input) (h : kept_words ≤ length words) where
   kept_of : take input.kept read ≡ words_of (take kept_bytes k.file)
   kept_of =
       let start = take kept_bytes k.file in
       let size : input.kept ≡ length (words_of start) =
-      ap (λ (i : Input). i.kept) same_input ∙ ap (λ (n : ℕ). n / 4) (least_is k.file kept_bytes) ∙ sym (words_length start)
+      ap (λ (i : Input). i.kept) k.same ∙ ap (λ (n : ℕ). n / 4) (least_is k.file kept_bytes) ∙ sym (words_length start)
       in
       ap (λ (n : ℕ). take n read) size ∙ ap (λ (l : List ℕ). take (length (words_of start)) l) k.kept
       ∙ start_kept (words_of start) words (omega (arith, words_length start, length-take kept_bytes k.file))
 
   pub prints_for_the_bytes : (lent lent_after out after : List ℕ) (r : Said)
-      → SaysMapped input.failed (take input.kept read) input lent lent_after out after r
-      → Puts out 0 (job_text k.file lent) after r.bytes
+      → SaysMapped (take input.kept read) (Ok input) lent lent_after out after (Ok r) → Puts out 0 (job_text k.file lent) after r.bytes
   prints_for_the_bytes lent lent_after out after r s =
-      let p : SaysMapped false (words_of (take kept_bytes k.file)) (input_of (length k.file) false) lent lent_after out after r =
-      subst (λ (i : Input). SaysMapped i.failed (words_of (take kept_bytes k.file)) i lent lent_after out after r) same_input
-      (subst (λ (l : List ℕ). SaysMapped input.failed l input lent lent_after out after r) kept_of s)
+      let p : SaysMapped (words_of (take kept_bytes k.file)) (Ok (input_of (length k.file))) lent lent_after out after (Ok r) =
+      subst (λ (i : Input). SaysMapped (words_of (take kept_bytes k.file)) (Ok i) lent lent_after out after (Ok r)) k.same
+      (subst (λ (l : List ℕ). SaysMapped l (Ok input) lent lent_after out after (Ok r)) kept_of s)
       in
       subst (λ (t : List ℕ). Puts out 0 t after r.bytes) (says_of_the_bytes k.file lent) p.1.text

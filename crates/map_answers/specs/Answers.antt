@@ -1,10 +1,11 @@
 -- What map_job says of what it read: document 01, "prints, per binding, ..; then the count. A refusal prints only REFUSED, number and place
 -- in decimal; a last word cut short is 2 at its index, before all else." An input that could not be read is said to have failed.
-use Rattle.std.specs.Prelude.{ℕ, ◌≡◌, Bool, true, false, List, take, if◌then◌else◌, Result, Ok, Err}
+use Rattle.std.specs.Prelude.{ℕ, ◌≡◌, List, take, if◌then◌else◌, Result, Ok, Err}
 use Rattle.words.specs.Paper.{refusal}
 use Rattle.text.specs.Text.{Puts}
 use Rattle.listing.specs.Listing.{mapped_text}
 use Rattle.lines.specs.Lines.{refused_line}
+use Rattle.console.specs.declared.Failed.{Failed}
 use Rattle.input.specs.declared.Input.{Input}
 use Rattle.mapper.specs.Mapping.{answer_of, lent_after_map}
 use Rattle.words.specs.declared.Refusal.{Refusal}
@@ -33,16 +34,12 @@ job_lent job input lent = if input.cut then lent else lent_after_map job lent
 
 -- the text of an answer is put, and how many words of a mapping it wrote is said
 pub record SaysAnswer (a : Result ℕ Refusal) (lent out after : List ℕ) (r : Said) : Type 0 where
-  pub read : r.failed ≡ false
   pub text : Puts out 0 (map_text a lent) after r.bytes
   pub words : r.words ≡ words_written a
 
--- an input that failed: nothing is put or written
-abbrev pub failed_said : Said
-failed_said = record { failed = true; bytes = 0; words = 0 }
-
--- by whether the input failed
-abbrev pub SaysMapped : Bool → List ℕ → Input → List ℕ → List ℕ → List ℕ → List ℕ → Said → Type 0
-SaysMapped true job input lent lent_after out after r = (r ≡ failed_said) × (lent_after ≡ lent) × (after ≡ out)
-SaysMapped false job input lent lent_after out after r =
-    (lent_after ≡ job_lent job input lent) × SaysAnswer (job_answer job input lent) (job_lent job input lent) out after r
+-- by whether the input was read: of one that failed nothing is put or written, and that it failed is said
+abbrev pub SaysMapped : List ℕ → Result Input Failed → List ℕ → List ℕ → List ℕ → List ℕ → Result Said Failed → Type 0
+SaysMapped job (Err e) lent lent_after out after r = (r ≡ Err e) × (lent_after ≡ lent) × (after ≡ out)
+SaysMapped job (Ok input) lent lent_after out after (Err e) = ⊥
+SaysMapped job (Ok input) lent lent_after out after (Ok said) =
+    (lent_after ≡ job_lent job input lent) × SaysAnswer (job_answer job input lent) (job_lent job input lent) out after said

@@ -1,11 +1,12 @@
 // What map_job says of what it read: the answer to its input, and its text, all lines of it, put into lent bytes.
 #![tactic(auto)]
 
-ghost use Rattle.std.specs.Prelude.{◌≡◌, ◌*◌, ◌≤◌, length};
+ghost use Rattle.std.specs.Prelude.{◌≡◌, ◌*◌, ◌≤◌, IfOk, length};
 ghost use Rattle.text.specs.Text as P;
 ghost use Rattle.map_answers.specs.Answers as S;
 ghost use Rattle.map_answers.specs.Asked as Q;
 
+use console::Failed;
 use input::Input;
 use words::Refusal;
 
@@ -13,15 +14,15 @@ use words::Refusal;
 pub const MOST_TEXT_BYTES: usize = listing::MOST_BINDING_BYTES * sequence::MOST_MAPPING_WORDS
     + lines::MOST_LINE_BYTES;
 
-// Whether the input could not be read, how many bytes of text were put, and how many words of a mapping were written.
+// How many bytes of text were put, and how many words of a mapping were written.
 #[derive(Clone, Copy)]
 pub struct Said {
-    pub failed: bool,
     pub bytes: usize,
     pub words: usize,
 }
 
 // The answer to a job that was read: a last word cut short comes before all else.
+#[tactic(auto, unfolding(crate::specs::Answers::job_answer, crate::specs::Answers::job_lent))]
 fn map_file(job: &[u32], input: Input, lent: &mut [u32]) -> Result<usize, Refusal>
     ensures answer { result ≡ S.job_answer job.now input lent.old }
     ensures written { lent.new ≡ S.job_lent job.now input lent.old }
@@ -45,35 +46,29 @@ fn put_answer(answer: Result<usize, Refusal>, lent: &[u32], out: &mut [u8]) -> S
         Ok(count) => {
             let bytes = listing::put_mapping(&lent[..count], out);
             Said {
-                failed: false,
                 bytes,
                 words: count,
             }
         }
         Err(refusal) => {
             let bytes = lines::refused_line(refusal, out);
-            Said {
-                failed: false,
-                bytes,
-                words: 0,
-            }
+            Said { bytes, words: 0 }
         }
     }
 }
 
-// What map_job says of its input: the words that were kept of it, and what was read. The mapping is written into lent words.
-pub fn map_input(job: &[u32], input: Input, lent: &mut [u32], out: &mut [u8]) -> Said
+// What map_job says of its input: the words that were kept of it, and what was read, if it could be. The mapping is written into lent words.
+pub fn map_input(
+    job: &[u32],
+    input: Result<Input, Failed>,
+    lent: &mut [u32],
+    out: &mut [u8],
+) -> Result<Said, Failed>
     requires { Q.Room lent.old out.old }
-    ensures fits { (result.bytes ≤ length out.old) × (result.words ≤ length lent.old) }
-    ensures said { S.SaysMapped input.failed job.now input lent.old lent.new out.old out.new result }
+    ensures fits { IfOk result (λ said. (said.bytes ≤ length out.old) × (said.words ≤ length lent.old)) }
+    ensures said { S.SaysMapped job.now input lent.old lent.new out.old out.new result }
 {
-    if input.failed {
-        return Said {
-            failed: true,
-            bytes: 0,
-            words: 0,
-        };
-    }
+    let input = input?;
     let answer = map_file(job, input, lent);
-    put_answer(answer, lent, out)
+    Ok(put_answer(answer, lent, out))
 }

@@ -9,13 +9,12 @@ use sequence::MOST_MAPPING_WORDS;
 fn map(rt: &HostRuntime) {
     let mut job = [0u32; input::KEPT_WORDS];
     let input = input::read_words(rt, &mut rt.stdin(), b"standard input", &mut job);
-    let kept = input.kept;
+    let kept = input::kept(input);
     let mut lent = [0u32; MOST_MAPPING_WORDS];
     let mut out = [0u8; MOST_TEXT_BYTES];
-    let said = map_answers::map_input(&job[..kept], input, &mut lent, &mut out);
-    if said.failed {
+    let Ok(said) = map_answers::map_input(&job[..kept], input, &mut lent, &mut out) else {
         return;
-    }
+    };
     let end = said.bytes;
     console::print(rt, &out[..end]);
     let count = said.words;
@@ -27,29 +26,19 @@ fn map(rt: &HostRuntime) {
     }
 }
 
-// How the program is called.
-const USAGE: [u8; 28] = *b"usage: map_job [FILE] < JOB\n";
-
-fn help(rt: &HostRuntime) {
-    console::print(rt, &USAGE);
-    console::print(
-        rt,
+fn main(rt: HostRuntime) {
+    let run = arguments::may_run(
+        &rt,
+        1,
+        2,
+        b"usage: map_job [FILE] < JOB\n",
         b"\n\
         Prints a line for each binding of the job's mapping, and its glue count; or the refusal. Writes the mapping's words to\n\
         FILE, if it is named. A job is words of four bytes, the lowest first, as pack_words makes them of text.\n\
         \n\
         example: pack_words < examples/printed.job | map_job mapping\n",
     );
-}
-
-fn main(rt: HostRuntime) {
-    if arguments::asks_help(&rt) {
-        help(&rt);
-        return;
+    if run {
+        map(&rt);
     }
-    if 2 < arguments::count(&rt) {
-        arguments::usage(&rt, &USAGE);
-        return;
-    }
-    map(&rt);
 }

@@ -18,29 +18,19 @@ fn pack(rt: &HostRuntime) {
     }
 }
 
-// How the program is called.
-const USAGE: [u8; 33] = *b"usage: pack_words < TEXT > WORDS\n";
-
-fn help(rt: &HostRuntime) {
-    console::print(rt, &USAGE);
-    console::print(
-        rt,
+fn main(rt: HostRuntime) {
+    let run = arguments::may_run(
+        &rt,
+        1,
+        1,
+        b"usage: pack_words < TEXT > WORDS\n",
         b"\n\
         Writes the bytes of words, four each, the lowest first. A word is eight hexadecimal digits. Spaces or line feeds\n\
         part words; # begins a comment, which ends with its line.\n\
         \n\
         example: echo '10000010 20010103 # width 16, prices' | pack_words > words\n",
     );
-}
-
-fn main(rt: HostRuntime) {
-    if arguments::asks_help(&rt) {
-        help(&rt);
-        return;
+    if run {
+        pack(&rt);
     }
-    if 1 < arguments::count(&rt) {
-        arguments::usage(&rt, &USAGE);
-        return;
-    }
-    pack(&rt);
 }

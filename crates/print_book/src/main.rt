@@ -24,27 +24,19 @@ fn print_all(rt: &HostRuntime) {
     }
 }
 
-// Says what the program does, and shows it.
-fn help(rt: &HostRuntime) {
-    console::print(
-        rt,
-        b"usage: print_book\n\
-        \n\
+fn main(rt: HostRuntime) {
+    let run = arguments::may_run(
+        &rt,
+        1,
+        1,
+        b"usage: print_book\n",
+        b"\n\
         Prints a line for each rule of the book: source, target or LV, word, and the record of the report's appendix A that\n\
         it comes from, or - for a companion. Its words are text for judge_rule and pack_words.\n\
         \n\
         example: print_book | cut -d ' ' -f 3 | judge_rule all\n",
     );
-}
-
-fn main(rt: HostRuntime) {
-    if arguments::asks_help(&rt) {
-        help(&rt);
-        return;
+    if run {
+        print_all(&rt);
     }
-    if 1 < arguments::count(&rt) {
-        arguments::usage(&rt, b"usage: print_book\n");
-        return;
-    }
-    print_all(&rt);
 }

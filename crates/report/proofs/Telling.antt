@@ -1,13 +1,12 @@
 -- Values put into a caller's words, if they are enough; and what a report holds.
 use mathlib.Core.Path.{◌≡◌, refl, ap, subst, ◌∙◌}
 use mathlib.Core.List.{List, ◌++◌}
-use Prim.Native.Nat.{ℕ, suc, ◌+◌, ◌-◌, ◌≤◌, ◌<◌}
+use Prim.Native.Nat.{ℕ, ◌+◌, ◌-◌, ◌≤◌, ◌<◌}
 use native.Mathlib.Omega.{arith}
-use lib.ListN.{length, drop, get_or, set, replicate, drop_of_length-le, length-append}
+use lib.ListN.{length, drop, replicate, length-append}
 use lib.Seq.{sets, take-append_seam}
 use Rattle.std.proofs.lemmas.List.Edits.{sets-eq}
 use borrow.Author.Tests.{lt-ltb, le-ltb}
-use Rattle.words.proofs.Lists.{drop-next}
 use Rattle.words.specs.Paper.{Paper}
 use Rattle.report.specs.Told.{most_values, report_of, paper, Told}
 use Rattle.report.specs.declared.Report.{Report}

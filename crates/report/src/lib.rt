@@ -14,6 +14,7 @@ use words::{Refusal, Witness};
 const MOST_VALUES: usize = 4;
 
 // No refusal.
+// Kept: the C interface gives the number 0 where there is no refusal.
 pub const NONE: Refusal = Refusal {
     number: words::NO_REFUSAL,
     place: 0,
@@ -25,12 +26,6 @@ pub struct Report {
     pub refusal: Refusal,
     pub count: usize,
     pub values: [u64; MOST_VALUES],
-}
-
-fn number(b: bool) -> u64
-    ensures { result ≡ num b }
-{
-    if b { 1 } else { 0 }
 }
 
 // A refusal and one value.
@@ -45,48 +40,54 @@ pub fn with_value(refusal: Refusal, value: u64) -> Report
 }
 
 // A refusal without values.
-pub fn refused(refusal: Refusal) -> Report
-    ensures { result ≡ D.report_of (told refusal) }
-{
-    Report {
-        refusal,
-        count: 0,
-        values: [0, 0, 0, 0],
+impl From<Refusal> for Report {
+    ghost from_gives = { λ refusal report. report ≡ D.report_of (told refusal) };
+
+    fn from(refusal: Refusal) -> Report {
+        Report {
+            refusal,
+            count: 0,
+            values: [0; MOST_VALUES],
+        }
     }
 }
 
 // What the evaluator shows: the four ports.
-pub fn shown(ports: Ports) -> Report
-    ensures { result ≡ D.report_of (accepted (ports.o0 ∷ num ports.ocout ∷ num ports.ovf ∷ num ports.o1 ∷ [])) }
-{
-    Report {
-        refusal: NONE,
-        count: MOST_VALUES,
-        values: [
-            ports.o0,
-            number(ports.ocout),
-            number(ports.ovf),
-            number(ports.o1),
-        ],
+impl From<Ports> for Report {
+    ghost from_gives = { λ ports report. report ≡ D.report_of (accepted (ports.o0 ∷ num ports.ocout ∷ num ports.ovf ∷ num ports.o1 ∷ [])) };
+
+    fn from(ports: Ports) -> Report {
+        Report {
+            refusal: NONE,
+            count: MOST_VALUES,
+            values: [
+                ports.o0,
+                u64::from(ports.ocout),
+                u64::from(ports.ovf),
+                u64::from(ports.o1),
+            ],
+        }
     }
 }
 
 // Refusal 10: the port, the operands and the carry.
-pub fn wrong(witness: Witness) -> Report
-    ensures { result ≡ D.report_of (refused_with 10 witness.function (witness.port ∷ witness.left ∷ witness.right ∷ num witness.carry ∷ [])) }
-{
-    Report {
-        refusal: Refusal {
-            number: 10,
-            place: witness.function as usize,
-        },
-        count: MOST_VALUES,
-        values: [
-            witness.port as u64,
-            witness.left,
-            witness.right,
-            number(witness.carry),
-        ],
+impl From<Witness> for Report {
+    ghost from_gives = { λ witness report. report ≡ D.report_of (refused_with 10 witness.function (witness.port ∷ witness.left ∷ witness.right ∷ num witness.carry ∷ [])) };
+
+    fn from(witness: Witness) -> Report {
+        Report {
+            refusal: Refusal {
+                number: 10,
+                place: witness.function as usize,
+            },
+            count: MOST_VALUES,
+            values: [
+                u64::from(witness.port),
+                witness.left,
+                witness.right,
+                u64::from(witness.carry),
+            ],
+        }
     }
 }
 

@@ -77,27 +77,19 @@ fn show_all(rt: &HostRuntime) {
     }
 }
 
-// Says what the program does, and shows it.
-fn help(rt: &HostRuntime) {
-    console::print(
-        rt,
-        b"usage: show_words < FILE\n\
-        \n\
+fn main(rt: HostRuntime) {
+    let run = arguments::may_run(
+        &rt,
+        1,
+        1,
+        b"usage: show_words < FILE\n",
+        b"\n\
         Prints a line for each word of a job or a mapping: its eight digits and what it is, or its refusal. What is printed,\n\
         cut to the digits, is text for pack_words.\n\
         \n\
         example: echo 54000001 | pack_words | show_words\n",
     );
-}
-
-fn main(rt: HostRuntime) {
-    if arguments::asks_help(&rt) {
-        help(&rt);
-        return;
+    if run {
+        show_all(&rt);
     }
-    if 1 < arguments::count(&rt) {
-        arguments::usage(&rt, b"usage: show_words < FILE\n");
-        return;
-    }
-    show_all(&rt);
 }

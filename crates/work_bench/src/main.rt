@@ -64,13 +64,12 @@ fn work(rt: &HostRuntime, opened: Bench) {
     }
 }
 
-// How the program is called.
-const USAGE: [u8; 43] = *b"usage: work_bench JOB [MAPPING] < COMMANDS\n";
-
-fn help(rt: &HostRuntime) {
-    console::print(rt, &USAGE);
-    console::print(
-        rt,
+fn main(rt: HostRuntime) {
+    let run = arguments::may_run(
+        &rt,
+        2,
+        3,
+        b"usage: work_bench JOB [MAPPING] < COMMANDS\n",
         b"\n\
         Opens the job of a file, and answers commands, one a line: bind WORD (a rule's eight hexadecimal digits), release F (a\n\
         function's number in decimal), price, show, finish. A finish prints the mapping and writes its words to the file\n\
@@ -78,38 +77,23 @@ fn help(rt: &HostRuntime) {
         \n\
         example: printf 'bind 50854960\\nprice\\nshow\\n' | work_bench job\n",
     );
-}
-
-fn main(rt: HostRuntime) {
-    if arguments::asks_help(&rt) {
-        help(&rt);
-        return;
+    if run {
+        open_and_work(&rt);
     }
-    let count = arguments::count(&rt);
-    if count < 2 {
-        arguments::usage(&rt, &USAGE);
-        return;
-    }
-    if 3 < count {
-        arguments::usage(&rt, &USAGE);
-        return;
-    }
-    open_and_work(&rt);
 }
 
 // Opens the job and works on its bench.
 fn open_and_work(rt: &HostRuntime) {
     let mut job = [0u32; KEPT_WORDS];
     let input = input::read_file(rt, 1, &mut job);
-    let kept = input.kept;
+    let kept = input::kept(input);
     let mut out = [0u8; MOST_TEXT_BYTES];
     let opened = bench_answers::open(&job[..kept], input, &mut out);
     let end = opened.bytes;
     if !console::print(rt, &out[..end]) {
         return;
     }
-    if opened.opened {
-        let bench = opened.bench;
+    if let Some(bench) = opened.bench {
         work(rt, bench);
     }
 }

@@ -1,5 +1,5 @@
 -- `bench::write` meets its contract.
-use Rattle.bench.proofs.Finishing.{bound_fit, bound_taken, mapping_writable, words_lacking, words_written_lem, mapping_laid}
+use Rattle.bench.proofs.Finishing.{bound_fit, bound_taken, mapping_writable, words_written_lem, mapping_laid}
 use Rattle.bench.proofs.Shapes.{shaped}
 use Rattle.bench.proofs.write.Goals as goal
 
@@ -12,14 +12,8 @@ slice_bounds-write_mapping-end c = search (shaped, bound_taken)
 pub write_mapping-requires : goal.write_mapping-requires
 write_mapping-requires c = search (shaped, mapping_writable)
 
-pub returns-in-Err-clause-answer : goal.returns-in-Err-clause-answer
-returns-in-Err-clause-answer c = search (shaped, words_lacking)
+pub returns-clause-answer : goal.returns-clause-answer
+returns-clause-answer c = search (shaped, words_written_lem)
 
-pub returns-in-Err-clause-written : goal.returns-in-Err-clause-written
-returns-in-Err-clause-written c = search (shaped, mapping_laid)
-
-pub returns-in-Ok-clause-answer : goal.returns-in-Ok-clause-answer
-returns-in-Ok-clause-answer c = search (shaped, words_written_lem)
-
-pub returns-in-Ok-clause-written : goal.returns-in-Ok-clause-written
-returns-in-Ok-clause-written c = search (shaped, mapping_laid)
+pub returns-clause-written : goal.returns-clause-written
+returns-clause-written c = search (shaped, mapping_laid)

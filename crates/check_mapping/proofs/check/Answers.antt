@@ -1,12 +1,12 @@
 -- `check_mapping::check` meets its contract.
-use Rattle.input.proofs.Parts.{array_start}
+use Rattle.input.proofs.Parts.{array_start, kept_within}
 use Rattle.check_mapping.proofs.check.Goals as goal
 
 pub slice_bounds-check_inputs-end : goal.slice_bounds-check_inputs-end
-slice_bounds-check_inputs-end c = search array_start
+slice_bounds-check_inputs-end c = search kept_within
 
 pub slice_bounds-check_inputs-end-2 : goal.slice_bounds-check_inputs-end-2
-slice_bounds-check_inputs-end-2 c = search array_start
+slice_bounds-check_inputs-end-2 c = search kept_within
 
 pub slice_bounds-print-end : goal.slice_bounds-print-end
 slice_bounds-print-end c = search array_start

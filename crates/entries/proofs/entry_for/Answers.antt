@@ -1,6 +1,5 @@
 -- `entries::entry_for` meets its contract.
-use borrow.Author.Rules.{rules}
-use Rattle.entries.proofs.Tabled.{few_sources, entry_few}
+use Rattle.entries.proofs.Tabled.{few_sources}
 use Rattle.soundness.proofs.Shapes.{tables_shaped, sources_fit, sources_taken}
 use Rattle.entries.proofs.entry_for.Goals as goal
 
@@ -9,6 +8,3 @@ slice_bounds-sources-end c = search (tables_shaped, few_sources, sources_fit)
 
 pub slice_bounds-entry_of-end : goal.slice_bounds-entry_of-end
 slice_bounds-entry_of-end c = search (tables_shaped, few_sources, sources_taken)
-
-pub returns : goal.returns
-returns c = (search rules, search (tables_shaped, entry_few))

@@ -1,9 +1,18 @@
 -- `entries::is_bound` meets its contract.
-use Rattle.entries.proofs.Tabled.{bound_there, bound_nowhere}
+use borrow.Author.Rules.{rules}
+use Rattle.entries.proofs.Searching.{bound_some, bound_none}
+use Rattle.entries.proofs.Tabled.{entry_few}
+use Rattle.soundness.proofs.Shapes.{tables_shaped}
 use Rattle.entries.proofs.is_bound.Goals as goal
 
-pub returns-then-entry-lt-MOST_SOURCES : goal.returns-then-entry-lt-MOST_SOURCES
-returns-then-entry-lt-MOST_SOURCES c = search bound_there
+pub offset_bounds-bound-entry : goal.offset_bounds-bound-entry
+offset_bounds-bound-entry c = search (rules, tables_shaped, entry_few)
 
-pub returns : goal.returns
-returns c = search bound_nowhere
+pub bounds-bound-entry : goal.bounds-bound-entry
+bounds-bound-entry c = search (tables_shaped, entry_few)
+
+pub returns-in-Some : goal.returns-in-Some
+returns-in-Some c = search bound_some
+
+pub returns-in-None : goal.returns-in-None
+returns-in-None c = search bound_none
