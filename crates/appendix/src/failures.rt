@@ -46,14 +46,12 @@ fn port_name(port: Port) -> &'static str {
 }
 
 // Writes out what the source and the recipe show at a port.
-fn say_shown(rt: &HostRuntime, form: &[u8], both: Option<Both>, port: Port) {
-    if let Some(both) = both {
-        say::line(
-            rt,
-            form,
-            &[at_port(both.source, port), at_port(both.recipe, port)],
-        );
-    }
+fn say_shown(rt: &HostRuntime, form: &[u8], both: Both, port: Port) {
+    say::line(
+        rt,
+        form,
+        &[at_port(both.source, port), at_port(both.recipe, port)],
+    );
 }
 
 // The line of a record at a width. It counts as differing unless both accounts show the same and the judge answers as expected.
@@ -86,7 +84,7 @@ fn show_failure(rt: &HostRuntime, tally: &mut Tally, record: Record, n: u32, exp
         answer.number().unwrap_or(0) as u64,
     );
     say::text(rt, b"\n");
-    tally.count(told.is_some() & (told == second) & (answer == expected));
+    tally.count((told == second) & (answer == expected));
 }
 
 // Each record at width 1, which is the least, and at width 8.

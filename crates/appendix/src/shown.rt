@@ -11,11 +11,11 @@ pub struct Both {
     pub recipe: Shown,
 }
 
-// Nothing where an operand is out of range.
-pub fn by_reference(word: u32, n: u32, at: Operands) -> Option<Both> {
-    let source = evaluate(fields_of(word).source, n, at).ok()?;
-    let recipe = recipe_shows(word, n, at).ok()?;
-    Some(Both { source, recipe })
+pub fn by_reference(word: u32, n: u32, at: Operands) -> Both {
+    Both {
+        source: evaluate(fields_of(word).source, n, at),
+        recipe: recipe_shows(word, n, at),
+    }
 }
 
 fn of_ports(ports: Ports) -> Shown {
@@ -27,22 +27,22 @@ fn of_ports(ports: Ports) -> Shown {
     }
 }
 
-// As the judge has them shown; nothing where an operand is out of range.
-pub fn by_library(word: u32, n: u32, at: Operands) -> Option<Both>
+// As the judge has them shown; zeros where an operand is out of range.
+pub fn by_library(word: u32, n: u32, at: Operands) -> Both
     requires { (1 ≤ n) × (n ≤ 8) }
 {
     let most = bits::ones(n);
     if (at.left > most) || (at.right > most) {
-        return None;
+        return by_reference(0, 0, at);
     }
     let claim = binding::claim_of(word);
     let source = claim.source;
     let recipe = claim.recipe;
     let carry = at.carry == 1;
-    Some(Both {
+    Both {
         source: of_ports(binding::side_shows(source, n, at.left, at.right, carry)),
         recipe: of_ports(binding::shows(recipe, n, at.left, at.right, carry)),
-    })
+    }
 }
 
 pub fn at_port(shown: Shown, port: Port) -> u64 {

@@ -1,6 +1,6 @@
 // The evaluator and the reference side by side.
 use bits::Ports;
-use reference::evaluator::{Operands, Shown};
+use reference::evaluator::{Operands, Shown, evaluate, in_range};
 use testing::say;
 use testing::tally::Tally;
 use words::Refusal;
@@ -34,7 +34,8 @@ fn of_alu(g: Given) -> Told {
 }
 
 pub fn of_reference(g: Given) -> Told {
-    reference::evaluator::evaluate(g.function, g.width, g.operands).map_err(|place| (3, place))
+    in_range(g.function, g.width, g.operands).map_err(|place| (3, place))?;
+    Ok(evaluate(g.function, g.width, g.operands))
 }
 
 // Whether both refuse with 3 at a place, or, where none is out of range, both show the same four ports.

@@ -40,13 +40,19 @@ pub fn in_range(function: u32, width: u32, at: Operands) -> Result<(), usize> {
     Ok(())
 }
 
-// The four ports, or the place of what is out of range.
-pub fn evaluate(function: u32, width: u32, at: Operands) -> Result<Shown, usize> {
-    in_range(function, width, at)?;
-    let shown = match function {
+// The four ports; zeros where a value is out of range.
+pub fn evaluate(function: u32, width: u32, at: Operands) -> Shown {
+    if in_range(function, width, at).is_err() {
+        return Shown {
+            o0: 0,
+            ocout: false,
+            ovf: false,
+            o1: false,
+        };
+    }
+    match function {
         1..=5 => arithmetic(function, width, at.left, at.right, at.carry == 1),
         6..=21 => logic(function, width, at.left, at.right),
         _ => comparison(function, width, at.left, at.right),
-    };
-    Ok(shown)
+    }
 }

@@ -138,25 +138,27 @@ fn carry_in(code: u32, carry: u32) -> u32 {
     }
 }
 
-// The four ports, or the place of what is out of range.
-pub fn recipe_shows(word: u32, width: u32, at: Operands) -> Result<Shown, usize> {
+// The four ports; zeros where a value is out of range.
+pub fn recipe_shows(word: u32, width: u32, at: Operands) -> Shown {
     let fields = fields_of(word);
-    in_range(1, width, at)?;
+    if in_range(1, width, at).is_err() {
+        return evaluate(0, width, at);
+    }
     if fields.target == 0 {
-        return Ok(Shown {
+        return Shown {
             o0: by_vector(fields.code, width, at.left, at.right),
             ocout: false,
             ovf: false,
             o1: false,
-        });
+        };
     }
     let wired = Operands {
         left: by_vector(wire(fields.left), width, at.left, at.right),
         right: by_vector(wire(fields.right), width, at.left, at.right),
         carry: carry_in(fields.carry, at.carry),
     };
-    let target = evaluate(fields.target, width, wired)?;
-    Ok(outputs(fields, width, target))
+    let target = evaluate(fields.target, width, wired);
+    outputs(fields, width, target)
 }
 
 // The ports, in the order of document 01's numbers for them.
@@ -182,9 +184,9 @@ impl Port {
 // The lowest port at which a recipe does not show what its source function does, if there is one. Of a function or operands out of range
 // nothing is shown, so that they would bear out anything: the place of what is out of range.
 pub fn first_difference(word: u32, width: u32, at: Operands) -> Result<Option<Port>, usize> {
-    let source = evaluate(fields_of(word).source, width, at)?;
-    let recipe = recipe_shows(word, width, at)?;
-    Ok(first_differing(recipe, source))
+    let function = fields_of(word).source;
+    in_range(function, width, at)?;
+    Ok(first_differing(recipe_shows(word, width, at), evaluate(function, width, at)))
 }
 
 fn first_differing(recipe: Shown, source: Shown) -> Option<Port> {
