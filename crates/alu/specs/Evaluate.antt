@@ -7,6 +7,7 @@ use Rattle.bits.specs.declared.Ports.{Ports}
 use Rattle.alu.specs.Function.{function_of, ports}
 use Rattle.alu.specs.Range.{is_function, is_width}
 use Rattle.words.specs.declared.Refusal.{Refusal}
+use Rattle.words.specs.declared.Fault.TheVariants.{NotLaidOut}
 
 -- the place of the first value out of range
 unfoldable pub first_out_of_range : ℕ → ℕ → ℕ → ℕ → ℕ → Option ℕ
@@ -20,7 +21,7 @@ first_out_of_range f n left right carry =
 
 -- where no value is out of range the ports are shown
 abbrev pub answer : Option ℕ → Ports → Result Ports Refusal
-answer (Some place) p = Err (refusal 3 place)
+answer (Some place) p = Err (refusal NotLaidOut place)
 answer None p = Ok p
 
 unfoldable pub evaluation : ℕ → ℕ → ℕ → ℕ → ℕ → Result Ports Refusal

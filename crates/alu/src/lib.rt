@@ -11,15 +11,12 @@ use bits::{
     CARRY_ONE, CARRY_ZERO, I0, I1, ICIN, NOT_I0, NOT_I1, ONES, Ports, ZEROS, compared, logic_word,
     ones, sum,
 };
-use words::Refusal;
+use words::{Fault, Refusal};
 
 // The number of functions, and the greatest width.
 pub const FUNCTIONS: u32 = 27;
 
 pub const WIDEST: u32 = 64;
-
-// The number of no function.
-pub const NO_FUNCTION: u32 = 0;
 
 // Some of the four ports.
 #[derive(Clone, Copy)]
@@ -172,6 +169,7 @@ pub fn drives(kind: Kind) -> PortSet
 }
 
 // The four ports of a function.
+#[tactic(auto, unfolding(crate::specs::Function::ports))]
 pub fn ports_of(kind: Kind, n: u32, left: u64, right: u64, carry: bool) -> Ports
     requires { Q.Operands n left right }
     ensures { result ≡ F.ports kind n left right carry }
@@ -207,6 +205,7 @@ pub fn ports_of(kind: Kind, n: u32, left: u64, right: u64, carry: bool) -> Ports
 }
 
 // The place of the first value out of range.
+#[tactic(auto, unfolding(crate::specs::Evaluate::first_out_of_range, crate::specs::Range::is_function, crate::specs::Range::is_width))]
 fn first_out_of_range(function: u32, width: u32, left: u64, right: u64, carry: u32) -> Option<usize>
     ensures { result ≡ E.first_out_of_range function width left right carry }
 {
@@ -229,6 +228,7 @@ fn first_out_of_range(function: u32, width: u32, left: u64, right: u64, carry: u
 }
 
 // The ports of a function at a width, two operands and a carry; or refusal 3 with the place, 0 to 4, of the first value out of range.
+#[tactic(auto, unfolding(crate::specs::Evaluate::evaluation, crate::specs::Evaluate::first_out_of_range, crate::specs::Range::is_function, crate::specs::Range::is_width))]
 pub fn evaluate(
     function: u32,
     width: u32,
@@ -239,7 +239,10 @@ pub fn evaluate(
     ensures { result ≡ E.evaluation function width left right carry }
 {
     match first_out_of_range(function, width, left, right, carry) {
-        Some(place) => Err(Refusal { number: 3, place }),
+        Some(place) => Err(Refusal {
+            fault: Fault::NotLaidOut,
+            place,
+        }),
         None => Ok(ports_of(function_of(function), width, left, right, carry == 1)),
     }
 }

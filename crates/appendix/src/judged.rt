@@ -1,5 +1,5 @@
 // What the judge answers, at every width.
-use reference::trial::{Witness, bears_out};
+use reference::trial::bears_out;
 use testing::say;
 use testing::tally::Tally;
 use verdict::Verdict;
@@ -28,17 +28,7 @@ fn of_verdict(verdict: Verdict, word: u32, n: u32) -> Judged {
     let Verdict::Wrong(witness) = verdict else {
         return Judged::Right;
     };
-    let shown = bears_out(
-        word,
-        n,
-        Witness {
-            function: witness.function,
-            port: witness.port,
-            left: witness.left,
-            right: witness.right,
-            carry: witness.carry,
-        },
-    );
+    let shown = bears_out(word, n, told::witness_of(witness));
     if shown {
         Judged::Wrong
     } else {
@@ -50,7 +40,7 @@ pub fn judge(word: u32, n: u32) -> Judged {
     let judgement = verdict::judge(word, n);
     match judgement {
         Ok(verdict) => of_verdict(verdict, word, n),
-        Err(refusal) => Judged::Refused(refusal.number),
+        Err(refusal) => Judged::Refused(u32::from(refusal.fault)),
     }
 }
 

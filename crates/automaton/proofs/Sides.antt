@@ -20,7 +20,7 @@ use Rattle.alu.specs.declared.Kind.TheVariants.{Arithmetic, Logic, Comparison}
 use Rattle.bits.proofs.Values.{below_nat, overflows-nat}
 use Rattle.bits.proofs.Words.{pow2, word_lt, word-ext, bit_word, suc-sub_one, top-word, word-zeros, word-not, word_ones}
 use Rattle.bits.proofs.Sums.{or_first, or_second, or_neither, reaches}
-use Rattle.bits.proofs.Orders.{ltb_iff}
+use Rattle.bits.proofs.Values.{ltb_iff}
 use Rattle.automaton.specs.Place.{wire, majority, parity, less_at, start, step, out_bit, top_carry, top_overflow, top_order}
 use Rattle.automaton.specs.declared.Ripple.{Ripple}
 

@@ -3,11 +3,11 @@ use mathlib.Core.Path.{◌≡◌, refl, sym, ap, subst, ◌∙◌}
 use mathlib.Core.Bool.{Bool, true, false, not}
 use Prim.Native.Nat.{ℕ, ◌<◌}
 use native.Mathlib.Omega.{arith}
-use lib.Dec.{eqb}
 use lib.ListN.{length, set}
-use borrow.Author.Tests.{eq-eqb, ne_eqb, eqb-true, not-true, not-false}
-use Rattle.std.specs.Prelude.{if◌then◌else◌, Option, Some, Result, Ok, Err, ⊤}
-use Rattle.words.specs.Paper.{refusal}
+use borrow.Author.Tests.{not-true, not-false}
+use Rattle.std.specs.Prelude.{if◌then◌else◌, Option, Some, None, Result, Ok, Err, ⊤}
+use Rattle.words.specs.Paper.{refusal, unless_fault}
+use Rattle.words.specs.declared.Fault.{Fault}
 use Rattle.words.specs.declared.Refusal.{Refusal}
 use Rattle.words.specs.declared.Witness.{Witness}
 use Rattle.words.proofs.Choices.{either}
@@ -20,12 +20,13 @@ use Rattle.sequence.specs.Limits.{most_sources}
 use Rattle.table.proofs.Entries.{in_job-parts}
 use Rattle.soundness.specs.Sound.{sources_on, targets_on, tables_sound, rule_fault, glue_on}
 use Rattle.soundness.proofs.Soundness.{sound_tables}
-use Rattle.bench.specs.Calls.{bench_with, sound_bench, sound_check, holding, gives, refuses, in_tables, entry_for, has_binding, bound_at, bind_check, claim_on, bind_of, Binds}
+use Rattle.bench.specs.Calls.{bench_with, sound_bench, sound_check, holding, gives, refuses, in_tables, entry_for, has_binding, bound_at, table_check, bind_check, claim_on, bind_of, Binds}
 use Rattle.bench.specs.Shape.{Shaped}
 use Rattle.bench.specs.declared.Bench.{Bench}
 use Rattle.bench.specs.declared.CallError.TheVariants.{Wrong}
 use Rattle.entries.proofs.Tabled.{entry_few}
 use Rattle.entries.proofs.Searching.{place_of, lists_entry, entry_there}
+use Rattle.words.specs.declared.Fault.TheVariants.{AlreadyBound, NotInJob, NotSound}
 
 -- ---- the entry
 
@@ -57,18 +58,18 @@ module _ (b : Bench) (f w : ℕ) (r : Option ℕ) (er : r ≡ entry_for b f) whe
 module _ (b : Bench) (r : Result ⊤ Refusal) (er : r ≡ sound_check b) where
   -- an unsound bench has refusal 20
   pub unsound : {X : Type 0} (f : Refusal → X) (y : X) (x : Refusal) → r ≡ Err x
-      → f x ≡ (if not (sound_bench b) then f (refusal 20 0) else y)
+      → f x ≡ (if not (sound_bench b) then f (refusal NotSound 0) else y)
   unsound {X = X} f y x e = go (sound_bench b) (sym e ∙ er)
     where
-      go : (p : Bool) → ◌≡◌ {A = Result ⊤ Refusal} (Err x) (if not p then Err (refusal 20 0) else Ok tt)
-          → f x ≡ (if not p then f (refusal 20 0) else y)
+      go : (p : Bool) → ◌≡◌ {A = Result ⊤ Refusal} (Err x) (if not p then Err (refusal NotSound 0) else Ok tt)
+          → f x ≡ (if not p then f (refusal NotSound 0) else y)
       go true q = absurd (let z : ◌≡◌ {A = ℕ} 0 1 = cc in omega arith)
       go false q = cc
 
   pub passed_sound : (v : ⊤) → r ≡ Ok v → sound_bench b ≡ true
   passed_sound v e = go (sound_bench b) (sym e ∙ er)
     where
-      go : (p : Bool) → ◌≡◌ {A = Result ⊤ Refusal} (Ok v) (if not p then Err (refusal 20 0) else Ok tt) → p ≡ true
+      go : (p : Bool) → ◌≡◌ {A = Result ⊤ Refusal} (Ok v) (if not p then Err (refusal NotSound 0) else Ok tt) → p ≡ true
       go true q = refl
       go false q = absurd (let z : ◌≡◌ {A = ℕ} 0 1 = cc in omega arith)
 
@@ -80,56 +81,56 @@ module _ (b : Bench) (r : Result ⊤ Refusal) (er : r ≡ sound_check b) where
     unfolding bind_check
     bind_unsound x e = unsound Err _ x e
 
-    module _ (v : ⊤) (ok : r ≡ Ok v) (x : ℕ) (ex : x ≡ rule_fault w) where
-      pub bad_word : (x ≡ 0 → ⊥) → Err (refusal x 0) ≡ bind_check b w
+    module _ (v : ⊤) (ok : r ≡ Ok v) (x : Option Fault) (ex : x ≡ rule_fault w) where
+      by_word : bind_check b w ≡ unless_fault x 0 (table_check b w)
       unfolding bind_check
-      bad_word h =
-          rw (passed_sound v ok)
-          (rw (ne_eqb (rule_fault w) 0 (λ e. h (ex ∙ e))) (ap (λ (y : ℕ). Err (refusal y 0)) ex))
+      by_word = rw (passed_sound v ok) (ap (λ (y : Option Fault). unless_fault y 0 (table_check b w)) (sym ex))
 
-      module _ (hx : x ≡ 0) (q : Bool) (eq : q ≡ in_tables b w) where
-        pub bind_absent : not q ≡ true → Err (refusal 8 0) ≡ bind_check b w
-        unfolding bind_check
-        bind_absent h =
-            rw (passed_sound v ok) (rw (eq-eqb (rule_fault w) 0 (sym ex ∙ hx)) (rw (sym eq ∙ not-true q h) refl))
+      pub bad_word : (fault : Fault) → x ≡ Some fault → Err (refusal fault 0) ≡ bind_check b w
+      bad_word fault h = sym (by_word ∙ ap (λ (y : Option Fault). unless_fault y 0 (table_check b w)) h)
+
+      module _ (hx : x ≡ None) (q : Bool) (eq : q ≡ in_tables b w) where
+        by_tables : table_check b w ≡ bind_check b w
+        by_tables = sym (by_word ∙ ap (λ (y : Option Fault). unless_fault y 0 (table_check b w)) hx)
+
+        pub bind_absent : not q ≡ true → Err (refusal NotInJob 0) ≡ bind_check b w
+        unfolding table_check
+        bind_absent h = rw (sym eq ∙ not-true q h) at by_tables
 
         module _ (hq : not q ≡ false) (f : ℕ) (ef : f ≡ source_of w) (t : Bool) (et : t ≡ has_binding b f) where
-          by_entry : bind_check b w ≡ (if t then Err (refusal 21 (source_of w)) else Ok tt)
-          unfolding bind_check
+          by_entry : (if t then Err (refusal AlreadyBound (source_of w)) else Ok tt) ≡ bind_check b w
+          unfolding table_check
           by_entry =
-              rw (passed_sound v ok)
-              (rw (eq-eqb (rule_fault w) 0 (sym ex ∙ hx))
-              (rw (sym eq ∙ not-false q hq)
-              (ap (λ (z : Bool). if z then Err (refusal 21 (source_of w)) else Ok tt) (sym (et ∙ ap (has_binding b) ef)))))
+              ap (λ (z : Bool). if z then Err (refusal AlreadyBound (source_of w)) else Ok tt) (et ∙ ap (has_binding b) ef)
+              ∙ (rw (sym eq ∙ not-false q hq) at by_tables)
 
-          pub bind_taken : t ≡ true → Err (refusal 21 f) ≡ bind_check b w
-          bind_taken h = ap (λ (y : ℕ). Err (refusal 21 y)) ef ∙ sym (by_entry ∙ rw h refl)
+          pub bind_taken : t ≡ true → Err (refusal AlreadyBound f) ≡ bind_check b w
+          bind_taken h = ap (λ (y : ℕ). Err (refusal AlreadyBound y)) ef ∙ (rw h at by_entry)
 
           pub bind_free : t ≡ false → Ok tt ≡ bind_check b w
-          bind_free h = sym (by_entry ∙ rw h refl)
+          bind_free h = rw h at by_entry
 
 -- ---- what a bind that is not refused before 10 has shown
 
 pub record Checked (b : Bench) (w : ℕ) : Type 0 where
   pub sound : sound_bench b ≡ true
-  pub a_rule : rule_fault w ≡ 0
+  pub a_rule : rule_fault w ≡ None
   pub there : in_tables b w ≡ true
   pub free : has_binding b (source_of w) ≡ false
 
 pub checked : (b : Bench) (w : ℕ) → bind_check b w ≡ Ok tt → Checked b w
-unfolding bind_check
+unfolding bind_check table_check
 checked b w =
     let Q : Result ⊤ Refusal → Type 0 = λ x. x ≡ Ok tt → Checked b w in
-    either Q (not (sound_bench b)) (λ _ e. absurd (let z : ◌≡◌ {A = ℕ} 0 1 = cc in omega arith))
-    (λ s. either Q (not (eqb (rule_fault w) 0)) (λ _ e. absurd (let z : ◌≡◌ {A = ℕ} 0 1 = cc in omega arith))
-    (λ r. either Q (not (in_tables b w)) (λ _ e. absurd (let z : ◌≡◌ {A = ℕ} 0 1 = cc in omega arith))
-    (λ t. either Q (has_binding b (source_of w)) (λ _ e. absurd (let z : ◌≡◌ {A = ℕ} 0 1 = cc in omega arith))
-    (λ f _. record {
-      sound = not-false (sound_bench b) s;
-      a_rule = eqb-true (rule_fault w) 0 (not-false (eqb (rule_fault w) 0) r);
-      there = not-false (in_tables b w) t;
-      free = f;
-    }))))
+    either Q (not (sound_bench b)) (λ _ e. absurd cc) (λ s. by_fault (not-false (sound_bench b) s) (rule_fault w) refl)
+  where
+    by_fault : sound_bench b ≡ true → (o : Option Fault) → rule_fault w ≡ o → unless_fault o 0 (table_check b w) ≡ Ok tt → Checked b w
+    by_fault s (Some fault) r = λ e. absurd cc
+    by_fault s None r =
+        let Q : Result ⊤ Refusal → Type 0 = λ x. x ≡ Ok tt → Checked b w in
+        either Q (not (in_tables b w)) (λ _ e. absurd cc)
+        (λ t. either Q (has_binding b (source_of w)) (λ _ e. absurd cc)
+        (λ f _. record { sound = s; a_rule = r; there = not-false (in_tables b w) t; free = f }))
 
 -- ---- the call
 

@@ -24,6 +24,7 @@ use Rattle.bench.specs.declared.CallError.{CallError}
 use Rattle.bench.specs.declared.CallError.TheVariants.{Refused}
 use Rattle.bench.proofs.Binds.{unsound, passed_sound}
 use Rattle.bench.proofs.Shapes.{sources_taken}
+use Rattle.words.specs.declared.Fault.TheVariants.{Unbound}
 
 -- ---- every source bound: the bindings are the first entries
 
@@ -108,7 +109,7 @@ module _ (b : Bench) (lent : List ℕ) (r : Result ⊤ Refusal) (er : r ≡ soun
   unsound_kept x e = unsound b r er (λ _. lent) _ x e
 
   module _ (v : ⊤) (ok : r ≡ Ok v) (u : Option ℕ) (eu : u ≡ unbound_on b) where
-    pub finish_unbound : (f : ℕ) → u ≡ Some f → gives b (Err (Refused (refusal 22 f))) ≡ finish_of b lent
+    pub finish_unbound : (f : ℕ) → u ≡ Some f → gives b (Err (Refused (refusal Unbound f))) ≡ finish_of b lent
     unfolding finish_of
     finish_unbound f e = rw (passed_sound b r er v ok) (ap (λ (x : Option ℕ). gives b (finish_for b lent x)) (sym e ∙ eu))
 

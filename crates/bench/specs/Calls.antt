@@ -1,7 +1,7 @@
 -- Document 01, "Mapper and bench" and "Refusals that come from the state", and requests #102 and #103: what each call answers, and the
 -- bench afterwards.
-use Rattle.std.specs.Prelude.{ℕ, ◌≡◌, Bool, not, List, [], ◌∷◌, eqb, set, replicate, if◌then◌else◌, Option, None, Some, Result, Ok, Err, ⊤}
-use Rattle.words.specs.Paper.{Paper, refusal, no_refusal, source_place, accepted, told}
+use Rattle.std.specs.Prelude.{ℕ, ◌≡◌, Bool, not, List, [], ◌∷◌, set, replicate, if◌then◌else◌, Option, None, Some, Result, Ok, Err, ⊤}
+use Rattle.words.specs.Paper.{Paper, refusal, unless_fault, source_place, accepted, told}
 use Rattle.recipe.specs.Fields.{source_of}
 use Rattle.binding.specs.Right.{is_right}
 use Rattle.binding.specs.declared.Claim.{Claim}
@@ -21,6 +21,7 @@ use Rattle.bench.specs.declared.Bench.{Bench}
 use Rattle.bench.specs.declared.CallError.{CallError}
 use Rattle.bench.specs.declared.CallError.TheVariants.{Refused, Wrong}
 use Rattle.bench.specs.declared.After.{After}
+use Rattle.words.specs.declared.Fault.TheVariants.{AlreadyBound, NotBound, NotInJob, NotSound, Unbound}
 
 -- ---- a bench
 
@@ -66,7 +67,7 @@ next_of b (Err e) = gives b (Err e)
 
 -- "20. Bench not sound; place 0. Before all others."
 abbrev pub sound_check : Bench → Result ⊤ Refusal
-sound_check b = if not (sound_bench b) then Err (refusal 20 0) else Ok tt
+sound_check b = if not (sound_bench b) then Err (refusal NotSound 0) else Ok tt
 
 -- ---- open: "Opening takes no bench and binds nothing; refused, it hands back one of zeros only"
 
@@ -94,14 +95,18 @@ open_of ws = open_for ws (job_of ws)
 abbrev pub in_tables : Bench → ℕ → Bool
 in_tables b w = in_job (sources_on b.tables) (targets_on b.tables) w
 
+-- "8. Source or target function not in the job"; "21. .. place: function"
+unfoldable pub table_check : Bench → ℕ → Result ⊤ Refusal
+table_check b w =
+    if not (in_tables b w) then Err (refusal NotInJob 0)
+    else if has_binding b (source_of w) then Err (refusal AlreadyBound (source_place (source_of w)))
+    else Ok tt
+
 -- the refusals before 10: "word places are 0"; "21. .. place: function"
 unfoldable pub bind_check : Bench → ℕ → Result ⊤ Refusal
 bind_check b w =
-    if not (sound_bench b) then Err (refusal 20 0)
-    else if not (eqb (rule_fault w) no_refusal) then Err (refusal (rule_fault w) 0)
-    else if not (in_tables b w) then Err (refusal 8 0)
-    else if has_binding b (source_of w) then Err (refusal 21 (source_place (source_of w)))
-    else Ok tt
+    if not (sound_bench b) then Err (refusal NotSound 0)
+    else unless_fault (rule_fault w) 0 (table_check b w)
 
 -- the claim of a recipe on a bench
 abbrev pub claim_on : Bench → ℕ → Claim
@@ -134,14 +139,14 @@ Binds b w r = BindRuled b (bind_of b w) r
 
 unfoldable pub release_of : Bench → ℕ → After ⊤
 release_of b f =
-    if not (sound_bench b) then refuses b (refusal 20 0)
-    else if not (has_binding b f) then refuses b (refusal 24 (source_place f))
+    if not (sound_bench b) then refuses b (refusal NotSound 0)
+    else if not (has_binding b f) then refuses b (refusal NotBound (source_place f))
     else gives (bound_at b (entry_for b f) nothing) (Ok tt)
 
 -- ---- price: 20, then the stored count
 
 unfoldable pub price_of : Bench → After ℕ
-price_of b = gives b (if not (sound_bench b) then Err (Refused (refusal 20 0)) else Ok b.glue)
+price_of b = gives b (if not (sound_bench b) then Err (Refused (refusal NotSound 0)) else Ok b.glue)
 
 -- ---- finish: 20, 22 (lowest), 23 last; writes the mapping
 
@@ -160,11 +165,11 @@ mapping_on b = mapping_words b.tables.width (bindings_on b) b.glue
 
 -- by the first source with nothing bound
 abbrev pub finish_for : Bench → List ℕ → Option ℕ → Result ℕ CallError
-finish_for b lent (Some f) = Err (Refused (refusal 22 (source_place f)))
+finish_for b lent (Some f) = Err (Refused (refusal Unbound (source_place f)))
 finish_for b lent None = finish_written (written_of b.tables.nsources lent)
 
 unfoldable pub finish_of : Bench → List ℕ → After ℕ
-finish_of b lent = gives b (if not (sound_bench b) then Err (Refused (refusal 20 0)) else finish_for b lent (unbound_on b))
+finish_of b lent = gives b (if not (sound_bench b) then Err (Refused (refusal NotSound 0)) else finish_for b lent (unbound_on b))
 
 -- the lent words afterwards
 abbrev pub lent_for : Bench → List ℕ → Option ℕ → List ℕ

@@ -3,7 +3,7 @@ ghost use Rattle.std.specs.Prelude.{◌≡◌};
 ghost use Rattle.bench.specs.Calls as C;
 
 use crate::Bench;
-use words::Refusal;
+use words::{Fault, Refusal};
 
 pub fn is_sound(bench: Bench) -> bool
     ensures { result ≡ C.sound_bench bench }
@@ -19,7 +19,7 @@ pub fn sound(bench: Bench) -> Result<(), Refusal>
 {
     if !is_sound(bench) {
         return Err(Refusal {
-            number: 20,
+            fault: Fault::NotSound,
             place: 0,
         });
     }
@@ -31,17 +31,13 @@ pub fn bind_check(bench: Bench, word: u32) -> Result<(), Refusal>
     ensures { result ≡ C.bind_check bench word }
 {
     sound(bench)?;
-    let fault = soundness::rule_fault(word);
-    if fault != words::NO_REFUSAL {
-        return Err(Refusal {
-            number: fault,
-            place: 0,
-        });
+    if let Some(fault) = soundness::rule_fault(word) {
+        return Err(Refusal { fault, place: 0 });
     }
     let tables = bench.tables;
     if !entries::in_tables(tables, word) {
         return Err(Refusal {
-            number: 8,
+            fault: Fault::NotInJob,
             place: 0,
         });
     }
@@ -49,7 +45,7 @@ pub fn bind_check(bench: Bench, word: u32) -> Result<(), Refusal>
     let function = recipe::source_of(word);
     if entries::is_bound(tables, bound, function) {
         return Err(Refusal {
-            number: 21,
+            fault: Fault::AlreadyBound,
             place: function as usize,
         });
     }

@@ -13,7 +13,7 @@ ghost use Rattle.bench.specs.declared.CallError.TheVariants.{Refused};
 use sequence::MOST_SOURCES;
 use soundness::{NOTHING, Tables};
 use verdict::Verdict;
-use words::{Refusal, Witness};
+use words::{Fault, Refusal, Witness};
 
 // A job's tables, an entry for each source, in table order, for what is bound to it, and the glue count of what is bound.
 #[derive(Clone, Copy)]
@@ -151,7 +151,7 @@ impl Bench {
         let bound = self.bound;
         if !entries::is_bound(self.tables, bound, function) {
             return Err(CallError::Refused(Refusal {
-                number: 24,
+                fault: Fault::NotBound,
                 place: function as usize,
             }));
         }
@@ -192,7 +192,7 @@ impl Bench {
         let bound = self.bound;
         if let Some(unbound) = entries::unbound_on(self.tables, bound) {
             return Err(CallError::Refused(Refusal {
-                number: 22,
+                fault: Fault::Unbound,
                 place: unbound as usize,
             }));
         }

@@ -18,18 +18,19 @@ use Rattle.bench.specs.declared.After.{After}
 use Rattle.bench.specs.declared.CallError.{CallError}
 use Rattle.bench.specs.declared.CallError.TheVariants.{Refused}
 use Rattle.bench_answers.specs.Answers.{words_finished}
+use Rattle.words.specs.declared.Fault.TheVariants.{NotSound, TooFewWords}
 
 written_within : (sources : ℕ) (lent : List ℕ) → words_finished (finish_written (written_of sources lent)) ≤ length lent
 unfolding written_of
 written_within sources lent =
     either (λ (w : Result ℕ Refusal). words_finished (finish_written w) ≤ length lent) (ltb (length lent) (words_needed sources))
-    {x = Err (refusal 23 (words_needed sources))} {y = Ok (words_needed sources)}
+    {x = Err (refusal TooFewWords (words_needed sources))} {y = Ok (words_needed sources)}
     (λ _. omega arith) (λ e. ltb-false (length lent) (words_needed sources) e)
 
 finish_most : (b : Bench) (lent : List ℕ) → words_finished (finish_of b lent).answer ≤ length lent
 unfolding finish_of
 finish_most b lent =
-    either (λ (a : Result ℕ CallError). words_finished a ≤ length lent) (not (sound_bench b)) {x = Err (Refused (refusal 20 0))}
+    either (λ (a : Result ℕ CallError). words_finished a ≤ length lent) (not (sound_bench b)) {x = Err (Refused (refusal NotSound 0))}
     {y = finish_for b lent (unbound_on b)}
     (λ _. omega arith) (λ _. by_unbound (unbound_on b))
   where

@@ -19,6 +19,7 @@ use Rattle.bench.specs.declared.CallError.{CallError}
 use Rattle.bench.specs.declared.CallError.TheVariants.{Refused, Wrong}
 use Rattle.bench_answers.specs.declared.Opened.{Opened}
 use Rattle.bench_answers.specs.declared.Worked.{Worked}
+use Rattle.words.specs.declared.Fault.TheVariants.{OutOfSequence}
 
 -- ---- the text of an answer
 
@@ -48,7 +49,7 @@ pub record SaysCall {A : Type 0} (call : After A) (given : A → List ℕ) (word
 -- ---- the job's file: "a last word cut short is 2 at its index, before all else"
 
 unfoldable pub open_input : List ℕ → Input → After ⊤
-open_input job input = if input.cut then refuses bench_of_zeros (refusal 2 input.whole) else open_of job
+open_input job input = if input.cut then refuses bench_of_zeros (refusal OutOfSequence input.whole) else open_of job
 
 -- a file that could not be read is not opened, and nothing is put
 abbrev pub not_opened : Opened

@@ -15,7 +15,7 @@ use console::Failed;
 use input::Input;
 use sequence::MOST_SOURCES;
 use soundness::NOTHING;
-use words::Refusal;
+use words::{Fault, Refusal};
 
 // The most bytes of a text: a line for each word of a mapping, and room for the longest line.
 pub const MOST_TEXT_BYTES: usize = listing::MOST_BINDING_BYTES * sequence::MOST_MAPPING_WORDS
@@ -252,7 +252,7 @@ fn open_input(job: &[u32], input: Input) -> After<()>
         return After {
             bench: bench::zeros(),
             answer: Err(CallError::Refused(Refusal {
-                number: 2,
+                fault: Fault::OutOfSequence,
                 place: input.whole,
             })),
         };

@@ -2,7 +2,7 @@
 use crate::files::{LENT, lent_holds};
 use accounts::sound::{BENCH_WORDS, BOUND, GLUE, NSOURCES, NTARGETS, TARGETS, WIDTH};
 use bench::{After, Bench, CallError};
-use reference::answer::{Answer, Given, Subject, refused, wrong};
+use reference::answer::{Answer, Given, Subject, wrong};
 use reference::trial::{Witness, bears_out};
 use soundness::Tables;
 use testing::words::after;
@@ -67,28 +67,14 @@ fn words_of(bench: Bench) -> [u32; BENCH_WORDS] {
 
 // Whether a witness shows that a rule is wrong at a width.
 fn is_shown(rule: u32, n: u32, witness: words::Witness) -> bool {
-    bears_out(
-        rule,
-        n,
-        Witness {
-            function: witness.function,
-            port: witness.port,
-            left: witness.left,
-            right: witness.right,
-            carry: witness.carry,
-        },
-    )
+    bears_out(rule, n, told::witness_of(witness))
 }
 
 // The answer to a call with a rule, 0 where it has none, on a bench of a width.
 fn answer_of(answer: Result<Given, CallError>, rule: u32, n: u32) -> Answer {
     match answer {
         Ok(given) => Ok(given),
-        Err(CallError::Refused(refusal)) => Err(refused(
-            Subject::Word,
-            refusal.number,
-            refusal.place,
-        )),
+        Err(CallError::Refused(refusal)) => Err(told::refusal_of(Subject::Word, refusal)),
         Err(CallError::Wrong(witness)) => {
             Err(wrong(Subject::Word, witness.function, is_shown(rule, n, witness)))
         }

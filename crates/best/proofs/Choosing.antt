@@ -10,8 +10,7 @@ use Rattle.std.specs.Prelude.{Option, Some, if◌then◌else◌}
 use Rattle.words.proofs.Lists.{drop-next}
 use Rattle.recipe.specs.Fields.{source_of}
 use Rattle.binding.specs.Right.{is_right}
-use Rattle.reader.specs.declared.Job.{Job}
-use Rattle.table.specs.Parts.{Terms, terms_with}
+use Rattle.table.specs.Parts.{Terms}
 use Rattle.table.specs.Table.{has_target}
 use Rattle.claims.specs.Claim.{claim_in}
 use Rattle.usage.specs.Sets.{usage_of}
@@ -22,44 +21,44 @@ use Rattle.best.specs.declared.Best.{Best}
 
 -- ---- one rule: the ways out of `consider`
 
-module _ (j : Job) (ss ts : List ℕ) (f used w : ℕ) (best : Option Best) (s : ℕ) (es : s ≡ source_of w) where
-  pub other_function : (s ≡ f → ⊥) → best ≡ better (besides j.width j.prices used) (terms_with j ss ts) f best w
+module _ (terms : Terms) (f used w : ℕ) (best : Option Best) (s : ℕ) (es : s ≡ source_of w) where
+  pub other_function : (s ≡ f → ⊥) → best ≡ better (besides terms.width terms.prices used) terms f best w
   unfolding better serves
   other_function h = rw (ne_eqb (source_of w) f (λ z. h (es ∙ z))) refl
 
-  module _ (hs : s ≡ f) (t : Bool) (et : t ≡ has_target ts w) where
-    pub no_target : not t ≡ true → best ≡ better (besides j.width j.prices used) (terms_with j ss ts) f best w
+  module _ (hs : s ≡ f) (t : Bool) (et : t ≡ has_target terms.targets w) where
+    pub no_target : not t ≡ true → best ≡ better (besides terms.width terms.prices used) terms f best w
     unfolding better serves usable
     no_target h = rw (eq-eqb (source_of w) f (sym es ∙ hs)) (rw (sym et ∙ not-true t h) refl)
 
-    module _ (ht : not t ≡ false) (u total : ℕ) (eu : u ≡ usage_of w) (ep : total ≡ set_count j.width j.prices (bit_or used u)) (b : Bool)
+    module _ (ht : not t ≡ false) (u total : ℕ) (eu : u ≡ usage_of w) (ep : total ≡ set_count terms.width terms.prices (bit_or used u)) (b : Bool)
         (eb : b ≡ beats best total) where
-      total_is : total ≡ besides j.width j.prices used w
-      total_is = ep ∙ ap (λ (x : ℕ). set_count j.width j.prices (bit_or used x)) eu
+      total_is : total ≡ besides terms.width terms.prices used w
+      total_is = ep ∙ ap (λ (x : ℕ). set_count terms.width terms.prices (bit_or used x)) eu
 
       -- the rule serves its function if it is right
-      by_rightness : better (besides j.width j.prices used) (terms_with j ss ts) f best w
-          ≡ (if is_right (claim_in ss ts w) j.width then if b then Some (record { word = w; total = total }) else best else best)
+      by_rightness : better (besides terms.width terms.prices used) terms f best w
+          ≡ (if is_right (claim_in terms.sources terms.targets w) terms.width then if b then Some (record { word = w; total = total }) else best else best)
       unfolding better serves usable
       by_rightness =
           rw (eq-eqb (source_of w) f (sym es ∙ hs))
           (rw (sym et ∙ not-false t ht)
           (rw (← total_is) (rw (← eb) refl)))
 
-      pub no_less : not b ≡ true → best ≡ better (besides j.width j.prices used) (terms_with j ss ts) f best w
-      no_less h = sym (by_rightness ∙ rw (not-true b h) (either_way (is_right (claim_in ss ts w) j.width)))
+      pub no_less : not b ≡ true → best ≡ better (besides terms.width terms.prices used) terms f best w
+      no_less h = sym (by_rightness ∙ rw (not-true b h) (either_way (is_right (claim_in terms.sources terms.targets w) terms.width)))
         where
           either_way : (x : Bool) → (if x then best else best) ≡ best
           either_way true = refl
           either_way false = refl
 
-      module _ (hb : not b ≡ false) (r : Bool) (er : r ≡ is_right (claim_in ss ts w) j.width) where
-        pub wrong_rule : not r ≡ true → best ≡ better (besides j.width j.prices used) (terms_with j ss ts) f best w
+      module _ (hb : not b ≡ false) (r : Bool) (er : r ≡ is_right (claim_in terms.sources terms.targets w) terms.width) where
+        pub wrong_rule : not r ≡ true → best ≡ better (besides terms.width terms.prices used) terms f best w
         wrong_rule h = sym (by_rightness ∙ rw (sym er ∙ not-true r h) refl)
 
         pub best_now : not r ≡ false
             → ◌≡◌ {A = Option Best} (Some (record { word = w; total = total }))
-            (better (besides j.width j.prices used) (terms_with j ss ts) f best w)
+            (better (besides terms.width terms.prices used) terms f best w)
         best_now h = sym (by_rightness ∙ rw (sym er ∙ not-false r h) (rw (not-false b hb) refl))
 
 -- ---- the rules of a source

@@ -2,12 +2,11 @@
 #![tactic(auto)]
 
 ghost use Rattle.std.specs.Prelude.{◌≡◌};
-ghost use Rattle.bits.specs.Asked as Q;
 ghost use Rattle.table.specs.Parts as T;
 ghost use Rattle.best.specs.Best as C;
 ghost use Rattle.best.specs.Beside as K;
 
-use reader::Job;
+use table::Terms;
 
 // A rule for a source, and the glue that it makes with the bindings before it.
 #[derive(Clone, Copy)]
@@ -33,26 +32,21 @@ pub fn consider(
     word: u32,
     function: u32,
     used: u64,
-    job: Job,
-    sources: &[u32],
-    targets: &[u32],
+    terms: &Terms,
 ) -> Option<Best>
-    requires { Q.Width job.width }
-    ensures { result ≡ C.better (K.besides job.width job.prices used) (T.terms_with job sources.now targets.now) function best word }
+    ensures { result ≡ C.better (K.besides terms.now.width terms.now.prices used) (T.terms_held terms.now) function best word }
 {
     if recipe::source_of(word) != function {
         return best;
     }
-    if !table::has_target(targets, word) {
+    if !terms.has_target(word) {
         return best;
     }
-    let n = job.width;
-    let prices = job.prices;
-    let total = tally::price(used | usage::usage_of(word), n, prices);
+    let total = tally::price(used | usage::usage_of(word), terms.width, terms.prices);
     if !beats(best, total) {
         return best;
     }
-    if !claims::is_right(sources, targets, word, n) {
+    if !claims::is_right(terms, word) {
         return best;
     }
     Some(Best { word, total })

@@ -1,2 +1,1 @@
-pub mod Recipes
 pub mod Tests

@@ -85,6 +85,7 @@ fn from_target(fields: recipe::Fields) -> Recipe
 }
 
 // The recipe that a word holds.
+#[tactic(auto, unfolding(crate::specs::Binding::recipe_of))]
 fn recipe_of(word: u32) -> Recipe
     ensures { result ≡ B.recipe_of word }
 {
@@ -109,6 +110,7 @@ pub fn claim_of(word: u32) -> Claim
 }
 
 // The ports of a side.
+#[tactic(auto, using(alu::proofs::Shown::ports_lt), unfolding(crate::specs::Binding::side_shows))]
 pub fn side_shows(side: Side, n: u32, left: u64, right: u64, carry: bool) -> Ports
     requires { Q.Operands n left right }
     ensures { (result ≡ B.side_shows side n left right carry) × (result.o0 < 2 ^ n) }

@@ -1,19 +1,11 @@
 -- The order of two's complement values, from the signs and the order of the words.
 use Rattle.std.proofs.Common.{◌≡◌, ℕ, zero, suc, ◌+◌, ◌*◌, ◌^◌, ◌<◌, ◌≤◌, Bool, true, false, ltb, sym, refl, ◌∙◌, arith, le-ltb, lt-ltb}
-use native.Mathlib.Decide.{dec_lt}
 use mathlib.Core.Bool.{beq}
 use Rattle.bits.specs.Bits.{num, bit, top, word}
 use Rattle.bits.specs.Order.{below}
 use Rattle.bits.specs.Asked.{Operands}
-use Rattle.bits.proofs.Values.{below_nat}
+use Rattle.bits.proofs.Values.{below_nat, ltb_iff}
 use Rattle.bits.proofs.Words.{pow2, word_lt, top_split, suc-sub_one}
-
-pub ltb_iff : (a b a' b' : ℕ) → (a < b → a' < b') → (b ≤ a → b' ≤ a') → ltb a' b' ≡ ltb a b
-ltb_iff a b a' b' p q =
-    elim (dec_lt a b) [
-      | yes h ↦ lt-ltb a' b' (p h) ∙ sym (lt-ltb a b h)
-      | no h ↦ let l : b ≤ a = omega arith in le-ltb a' b' (q l) ∙ sym (le-ltb a b l)
-    ]
 
 -- the order from the signs p of a and q of b: of one sign the lower word is less, else the negative one
 signed : Bool → Bool → Bool → Bool

@@ -111,11 +111,11 @@ pub cut-lt : (n x : ℕ) (s : CutSum) → s ≡ cut n x → s.word < 2 ^ n
 cut-lt n x s e = rw e (mod-lt x (pow_pos n))
 
 -- the ports of a sum from the parts that the code finds
-pub sum-parts : (n a b : ℕ) (c : Bool) (s : CutSum) (p q r v : Bool) → Operands n a b → s ≡ cut n (a + b + num c)
+pub sum_parts : (n a b : ℕ) (c : Bool) (s : CutSum) (p q r v : Bool) → Operands n a b → s ≡ cut n (a + b + num c)
     → p ≡ top n a → q ≡ top n b → r ≡ top n s.word → v ≡ (beq p q && exor p r)
     → ◌≡◌ {A = Ports} (record { o0 = s.word; ocout = s.carry; ovf = v; o1 = false }) (sum n a b c)
 unfolding sum
-sum-parts n a b c s p q r v g es ep eq er ev =
+sum_parts n a b c s p q r v g es ep eq er ev =
     let t : ℕ = a + b + num c in
     let u = carry_out_lem n t (omega (arith, num-lt c)) in
     let ew : s.word ≡ t % 2 ^ n = ap (λ (z : CutSum). z.word) es in

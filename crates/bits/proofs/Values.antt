@@ -30,10 +30,10 @@ add_is (pos m) (negsuc n) a d b e h k = shift (sub_ℕ m (suc n)) m (suc n) (a +
 add_is (negsuc m) (pos n) a d b e h k = shift (sub_ℕ n (suc m)) n (suc m) (a + b) (d + e) (sub_is n (suc m)) (omega arith)
 add_is (negsuc m) (negsuc n) a d b e h k = omega arith
 
-ltb_iff : (a b a' b' : ℕ) → (a < b → a' < b') → (b ≤ a → b' ≤ a') → ltb a b ≡ ltb a' b'
+pub ltb_iff : (a b a' b' : ℕ) → (a < b → a' < b') → (b ≤ a → b' ≤ a') → ltb a' b' ≡ ltb a b
 ltb_iff a b a' b' p q =
     elim (dec_lt a b)
-    [ yes h ↦ lt-ltb a b h ∙ sym (lt-ltb a' b' (p h)) | no h ↦ let l : b ≤ a = omega arith in le-ltb a b l ∙ sym (le-ltb a' b' (q l)) ]
+    [ yes h ↦ lt-ltb a' b' (p h) ∙ sym (lt-ltb a b h) | no h ↦ let l : b ≤ a = omega arith in le-ltb a' b' (q l) ∙ sym (le-ltb a b l) ]
 
 leb_iff : (a b a' b' : ℕ) → (a ≤ b → a' ≤ b') → (b < a → b' < a') → leb a b ≡ leb a' b'
 leb_iff a b a' b' p q =
@@ -41,10 +41,10 @@ leb_iff a b a' b' p q =
     [ yes h ↦ le-leb a b h ∙ sym (le-leb a' b' (p h)) | no h ↦ let l : b < a = omega arith in lt-leb a b l ∙ sym (lt-leb a' b' (q l)) ]
 
 lt_is : (z w : ℤ) (a d b e : ℕ) → Is z a d → Is w b e → lt_z z w ≡ ltb (a + e) (b + d)
-lt_is (pos m) (pos n) a d b e h k = ltb_iff m n (a + e) (b + d) (λ l. omega arith) (λ l. omega arith)
+lt_is (pos m) (pos n) a d b e h k = ltb_iff (a + e) (b + d) m n (λ l. omega arith) (λ l. omega arith)
 lt_is (pos m) (negsuc n) a d b e h k = sym (le-ltb (a + e) (b + d) (omega arith))
 lt_is (negsuc m) (pos n) a d b e h k = sym (lt-ltb (a + e) (b + d) (omega arith))
-lt_is (negsuc m) (negsuc n) a d b e h k = ltb_iff n m (a + e) (b + d) (λ l. omega arith) (λ l. omega arith)
+lt_is (negsuc m) (negsuc n) a d b e h k = ltb_iff (a + e) (b + d) n m (λ l. omega arith) (λ l. omega arith)
 
 le_is : (z w : ℤ) (a d b e : ℕ) → Is z a d → Is w b e → le_z z w ≡ leb (a + e) (b + d)
 le_is (pos m) (pos n) a d b e h k = leb_iff m n (a + e) (b + d) (λ l. omega arith) (λ l. omega arith)

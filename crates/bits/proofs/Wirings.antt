@@ -26,14 +26,14 @@ of_pair f d (z ∷ zs) (suc (suc code)) h =
 -- ---- a word
 
 -- the low bit, 0 or 1, taken off 0 and cut to the width
-pub cut-mask : (n b s m : ℕ) → n ≤ 64 → b < 2 → s < 2 ^ 64 → (s + b) % 2 ^ 64 ≡ 0 → m ≡ 2 ^ n - 1 → bit_and s m ≡ b * (2 ^ n - 1)
-cut-mask n zero s m h k l e u =
+pub cut_mask : (n b s m : ℕ) → n ≤ 64 → b < 2 → s < 2 ^ 64 → (s + b) % 2 ^ 64 ≡ 0 → m ≡ 2 ^ n - 1 → bit_and s m ≡ b * (2 ^ n - 1)
+cut_mask n zero s m h k l e u =
     let z : s ≡ 0 = omega arith in rw z (sym (zero-mul (2 ^ n - 1)))
-cut-mask n (suc zero) s m h k l e u =
+cut_mask n (suc zero) s m h k l e u =
     let z : s ≡ 2 ^ 64 - 1 = omega arith in
     let p = pow_mono h in
     and_comm s m ∙ ap (bit_and m) z ∙ and_mask m 64 ∙ mod-eq_of_lt (omega arith) ∙ u ∙ sym (one-mul (2 ^ n - 1))
-cut-mask n (suc (suc b)) s m h k l e u = absurd (omega arith)
+cut_mask n (suc (suc b)) s m h k l e u = absurd (omega arith)
 
 -- the exclusive or with n ones complements, with zeros it changes nothing
 xor_mask : (n a b : ℕ) → b < 2 → a < 2 ^ n → bit_xor a (b * (2 ^ n - 1)) ≡ (if eqb b 1 then complement n a else a)

@@ -27,7 +27,7 @@ word-ext zero f g h = refl
 word-ext (suc n) f g h =
     ap₂ (λ (a : ℕ) (x : Bool). a + num x * 2 ^ n) (word-ext n f g (λ i l. h i (omega arith))) (h n (omega arith))
 
-num-bit : (a i : ℕ) → num (bit a i) ≡ a / 2 ^ i % 2
+pub num-bit : (a i : ℕ) → num (bit a i) ≡ a / 2 ^ i % 2
 unfolding bit
 num-bit a i = go (a / 2 ^ i % 2) (mod-lt (a / 2 ^ i) (zero-lt-suc 1))
   where
@@ -118,8 +118,8 @@ pub word_ones : (n : ℕ) → word n (λ i. true) ≡ 2 ^ n - 1
 word_ones n = word-not n (λ i. false) ∙ ap (λ (x : ℕ). 2 ^ n - 1 - x) (word-zeros n) ∙ omega arith
 
 -- the word of n ones, by a shift
-pub ones-shift : (n : ℕ) → n ≤ 64 → (2 ^ 64 - 1) / 2 ^ (64 - n) ≡ 2 ^ n - 1
-ones-shift n h =
+pub ones_shift : (n : ℕ) → n ≤ 64 → (2 ^ 64 - 1) / 2 ^ (64 - n) ≡ 2 ^ n - 1
+ones_shift n h =
     let e : n + (64 - n) ≡ 64 = omega arith in
     ap (λ (x : ℕ). (2 ^ x - 1) / 2 ^ (64 - n)) (sym e)
     ∙ ap (λ (x : ℕ). x / 2 ^ (64 - n)) (ones_split n (64 - n))
@@ -130,8 +130,8 @@ half_test : (x : Bool) (a w p q : ℕ) → w < p → q ≡ p + p → a ≡ w + n
 half_test true a w p q h e u = lt-ltb ((q - 1) / 2) a (omega arith)
 half_test false a w p q h e u = le-ltb ((q - 1) / 2) a (omega arith)
 
-pub top-test : (n a m : ℕ) → 1 ≤ n → a < 2 ^ n → m ≡ 2 ^ n - 1 → ltb (m / 2) a ≡ top n a
+pub top_test : (n a m : ℕ) → 1 ≤ n → a < 2 ^ n → m ≡ 2 ^ n - 1 → ltb (m / 2) a ≡ top n a
 unfolding top
-top-test zero a m h l e = absurd (omega arith)
-top-test (suc k) a m h l e =
+top_test zero a m h l e = absurd (omega arith)
+top_test (suc k) a m h l e =
     rw (e, suc-sub_one) (half_test (bit a k) a (word k (bit a)) (2 ^ k) (2 ^ suc k) (word_lt k (bit a)) (pow2 k) (top_split k a l))

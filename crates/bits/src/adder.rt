@@ -23,6 +23,7 @@ fn wrapped(s: u64, a: u64, c: bool) -> bool
     if c { s <= a } else { s < a }
 }
 
+#[tactic(auto, using(crate::proofs::Sums::narrow))]
 fn add(n: u32, a: u64, b: u64, c: bool) -> CutSum
     requires { Q.Operands n a b }
     ensures { result ≡ cut n (a + b + B.num c) }
@@ -49,6 +50,7 @@ fn overflow(p: bool, q: bool, s: bool) -> bool
 }
 
 // The ports of a sum.
+#[tactic(auto, using(crate::proofs::Sums::sum_parts))]
 pub fn sum(n: u32, a: u64, b: u64, c: bool) -> Ports
     requires { Q.Operands n a b }
     ensures { result ≡ S.sum n a b c }

@@ -12,6 +12,7 @@ pub use order::compared;
 pub use wiring::{carried, complement, ones, top, wired};
 
 // The codes of wirings and of the carry. Codes 2j and 2j + 1 are complements.
+// Kept: numbers, since a code is a field of a word, and arithmetic with its low bit says what it does.
 pub const ZEROS: u32 = 0;
 
 pub const ONES: u32 = 1;

@@ -12,6 +12,7 @@ fn gated(b: bool, word: u64) -> u64
     u64::from(b) * word
 }
 
+#[tactic(auto, using(crate::proofs::Minterms::by_gates, crate::proofs::Minterms::union_fits))]
 pub fn logic_word(n: u32, vector: u32, left: u64, right: u64) -> u64
     requires { Q.Operands n left right }
     ensures { result ≡ L.logic_word n vector left right }

@@ -5,6 +5,7 @@ ghost use Rattle.bits.specs.Asked as Q;
 
 use crate::top;
 
+#[tactic(auto, using(crate::proofs::Orders::one_sign, crate::proofs::Orders::two_signs))]
 fn below(n: u32, a: u64, b: u64) -> bool
     requires { Q.Operands n a b }
     ensures { result ≡ O.below n a b }

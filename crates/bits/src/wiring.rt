@@ -5,6 +5,7 @@ ghost use Rattle.bits.specs.Wiring as W;
 ghost use Rattle.bits.specs.Asked as Q;
 
 // The word of n ones.
+#[tactic(auto, using(crate::proofs::Words::ones_shift))]
 pub fn ones(n: u32) -> u64
     requires { Q.Width n }
     ensures { result ≡ 2 ^ n - 1 }
@@ -21,6 +22,7 @@ pub fn complement(n: u32, word: u64) -> u64
 }
 
 // n ones for the bit 1, n zeros for the bit 0: 0 less the bit, cut to the width.
+#[tactic(auto, using(crate::proofs::Wirings::cut_mask))]
 fn mask(n: u32, bit: u64) -> u64
     requires { Q.Width n × (bit < 2) }
     ensures { result ≡ bit * (2 ^ n - 1) }
@@ -52,6 +54,7 @@ pub fn carried(code: u32, carry: bool) -> bool
 }
 
 // The top bit of a word of n bits.
+#[tactic(auto, using(crate::proofs::Words::top_test))]
 pub fn top(n: u32, word: u64) -> bool
     requires { Q.Width n × (word < 2 ^ n) }
     ensures { result ≡ B.top n word }

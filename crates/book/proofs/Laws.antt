@@ -4,14 +4,15 @@ use mathlib.Core.Path.{◌≡◌, refl}
 use Prim.Native.Nat.{ℕ, zero, suc, ◌≤◌, ◌<◌}
 use native.Mathlib.Omega.{arith}
 use native.Mathlib.Decide.{dec_lt}
-use mathlib.Core.Bool.{Bool, true, ◌&&◌}
+use mathlib.Core.Bool.{Bool, true, false, ◌&&◌}
 use mathlib.Core.List.{List, [], ◌∷◌}
 use lib.Dec.{eqb, ltb, leb}
 use lib.ListN.{length, get_or}
 use borrow.Author.Tests.{eqb-true, ltb-true, leb-true}
+use Rattle.std.specs.Prelude.{Option, Some, None}
 use Rattle.words.specs.Field.{kind_of}
 use Rattle.words.specs.Kinds.{RULE}
-use Rattle.words.specs.Paper.{no_refusal}
+use Rattle.words.specs.declared.Fault.{Fault}
 use Rattle.words.proofs.Choices.{and_split}
 use Rattle.bits.specs.Bits.{bit}
 use Rattle.alu.specs.Range.{is_function, is_width}
@@ -25,9 +26,20 @@ use Rattle.book.proofs.Closed.{right_always, always_right}
 
 -- ---- the test
 
+abbrev faultless : Option Fault → Bool
+faultless None = true
+faultless (Some fault) = false
+
+none_of : (o : Option Fault) → faultless o ≡ true → o ≡ None
+none_of None h = refl
+none_of (Some fault) h = absurd (false≢true h)
+  where
+    false≢true : false ≡ true → ⊥
+    false≢true e = cc
+
 -- a word by itself
 abbrev sound : ℕ → Bool
-sound w = eqb (kind_of w) RULE && (eqb (recipe_fault w) no_refusal && right_always w)
+sound w = eqb (kind_of w) RULE && (faultless (recipe_fault w) && right_always w)
 
 -- a word and the one after it
 abbrev rises : ℕ → ℕ → Bool
@@ -67,12 +79,12 @@ rises_at v (w ∷ x ∷ ws) h zero l = head_rises w x ws (tail_passes v w (x ∷
 rises_at v (w ∷ x ∷ ws) h (suc k) l = rises_at w (x ∷ ws) (tail_passes v w (x ∷ ws) h) k (omega arith)
 
 sound_entry : (k : ℕ) → k < length book
-    → (kind_of (get_or book k 0) ≡ RULE) × (recipe_fault (get_or book k 0) ≡ no_refusal) × (right_always (get_or book k 0) ≡ true)
+    → (kind_of (get_or book k 0) ≡ RULE) × (recipe_fault (get_or book k 0) ≡ None) × (right_always (get_or book k 0) ≡ true)
 sound_entry k l =
     let w : ℕ = get_or book k 0 in
-    let p = and_split (eqb (kind_of w) RULE) (eqb (recipe_fault w) no_refusal && right_always w) (sound_at 0 book book-passes k l) in
-    let q = and_split (eqb (recipe_fault w) no_refusal) (right_always w) p.1 in
-    (eqb-true (kind_of w) RULE p.0, eqb-true (recipe_fault w) no_refusal q.0, q.1)
+    let p = and_split (eqb (kind_of w) RULE) (faultless (recipe_fault w) && right_always w) (sound_at 0 book book-passes k l) in
+    let q = and_split (faultless (recipe_fault w)) (right_always w) p.1 in
+    (eqb-true (kind_of w) RULE p.0, none_of (recipe_fault w) q.0, q.1)
 
 rising_entry : (k : ℕ) → suc k < length book
     → (get_or book k 0 < get_or book (suc k) 0) × (source_of (get_or book k 0) ≤ source_of (get_or book (suc k) 0))
@@ -99,7 +111,7 @@ unfolding book
 at_least_200 = leb-true 200 (length book) refl
 
 -- "each passing 3, 5 and 6"
-pub each_is_a_rule : (k : ℕ) → k < length book → (kind_of (get_or book k 0) ≡ RULE) × (recipe_fault (get_or book k 0) ≡ no_refusal)
+pub each_is_a_rule : (k : ℕ) → k < length book → (kind_of (get_or book k 0) ≡ RULE) × (recipe_fault (get_or book k 0) ≡ None)
 each_is_a_rule k l = let p = sound_entry k l in (p.0, p.1)
 
 -- "right at every width from 1 to 64"

@@ -9,8 +9,9 @@ use Rattle.input.specs.declared.Input.{Input}
 use Rattle.checker.specs.declared.CheckError.TheVariants.{JobRefused}
 use Rattle.std.specs.Prelude.{Err}
 use Rattle.check_answers.specs.Answers.{files_ruling}
+use Rattle.words.specs.declared.Fault.TheVariants.{OutOfSequence}
 
 pub cut-before_all : (job mapping : List ℕ) (first second : Input) → first.cut ≡ true
-    → files_ruling job first mapping second ≡ Gives (Err (JobRefused (refusal 2 first.whole)))
+    → files_ruling job first mapping second ≡ Gives (Err (JobRefused (refusal OutOfSequence first.whole)))
 unfolding files_ruling
 cut-before_all job mapping first second cut = rw cut refl

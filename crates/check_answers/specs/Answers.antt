@@ -13,6 +13,7 @@ use Rattle.console.specs.declared.Failed.{Failed}
 use Rattle.input.specs.declared.Input.{Input}
 use Rattle.checker.specs.Check.{CheckRuled, ruling_of}
 use Rattle.checker.specs.declared.CheckError.TheVariants.{JobRefused, MappingRefused, Refused, Wrong}
+use Rattle.words.specs.declared.Fault.TheVariants.{OutOfSequence}
 
 -- the text of the checker's answer
 abbrev pub refused_text : CheckError → List ℕ
@@ -29,12 +30,12 @@ checked_text (Err e) = refused_text e
 
 -- a mapping cut short at word `end`, with a job that was read
 abbrev pub cut_mapping : ℕ → Result Job Refusal → Result ⊤ CheckError
-cut_mapping end (Ok job) = Err (MappingRefused (refusal 2 end))
+cut_mapping end (Ok job) = Err (MappingRefused (refusal OutOfSequence end))
 cut_mapping end (Err r) = Err (JobRefused r)
 
 unfoldable pub files_ruling : List ℕ → Input → List ℕ → Input → Ruling (Result ⊤ CheckError)
 files_ruling job first mapping second =
-    if first.cut then Gives (Err (JobRefused (refusal 2 first.whole)))
+    if first.cut then Gives (Err (JobRefused (refusal OutOfSequence first.whole)))
     else if second.cut then Gives (cut_mapping second.whole (job_of job))
     else ruling_of job mapping
 

@@ -11,7 +11,7 @@ ghost use Rattle.check_answers.specs.Answers as S;
 use checker::CheckError;
 use console::Failed;
 use input::Input;
-use words::Refusal;
+use words::{Fault, Refusal};
 
 // A mapping whose last word is cut short: the job's refusals come before it.
 fn cut_mapping(job: &[u32], end: usize) -> Result<(), CheckError>
@@ -19,7 +19,7 @@ fn cut_mapping(job: &[u32], end: usize) -> Result<(), CheckError>
 {
     match reader::read_job(job) {
         Ok(_) => Err(CheckError::MappingRefused(Refusal {
-            number: 2,
+            fault: Fault::OutOfSequence,
             place: end,
         })),
         Err(refusal) => Err(CheckError::JobRefused(refusal)),
@@ -32,7 +32,7 @@ fn check_files(job: &[u32], first: Input, mapping: &[u32], second: Input) -> Res
 {
     if first.cut {
         return Err(CheckError::JobRefused(Refusal {
-            number: 2,
+            fault: Fault::OutOfSequence,
             place: first.whole,
         }));
     }

@@ -17,18 +17,19 @@ use Rattle.verdict.specs.declared.Verdict.TheVariants as verdict
 use Rattle.reader.specs.Starts.{glue_place}
 use Rattle.reader.specs.declared.Job.{Job}
 use Rattle.reader.specs.declared.Mapping.{Mapping}
-use Rattle.table.specs.Parts.{sources_of, targets_of, bindings_of, Terms, terms_with}
+use Rattle.table.specs.Parts.{bindings_of, Terms, terms_of}
 use Rattle.fitting.specs.Pair.{pair_of}
 use Rattle.fitting.specs.Fitting.{fit_of}
 use Rattle.checker.specs.declared.CheckError.{CheckError}
 use Rattle.fitting.specs.declared.PairError.{PairError}
-use Rattle.pricer.specs.Pricing.{glue_of}
+use Rattle.glue.specs.Glue.{glue}
 use Rattle.checker.specs.Check.{of_pair, CheckRuled, account_of, fitting_of, unless_misfit, judgement_of, ruled_of, ruling_of, Checks, unless_unbound}
 use Rattle.completeness.specs.Complete.{first_unbound}
 use Rattle.rightness.specs.Rightness.{unless_wrong}
 use Rattle.rightness.specs.FirstWrong.{VerdictRuled, SaysOfAll}
 use Rattle.rightness.proofs.Judging.{right_or_named}
 use Rattle.checker.specs.declared.CheckError.TheVariants.{Refused, Wrong}
+use Rattle.words.specs.declared.Fault.TheVariants.{Incomplete, OtherGlue}
 
 abbrev answers_to : {a b : Ruling (Result ⊤ CheckError)} (r : Result ⊤ CheckError) → a ≡ b → CheckRuled a r → CheckRuled b r
 answers_to r e h = subst (λ (x : Ruling (Result ⊤ CheckError)). CheckRuled x r) e h
@@ -47,15 +48,15 @@ module _ (t : Terms) (ws : List ℕ) (next : Ruling (Result ⊤ CheckError)) whe
 
 -- ---- 11
 
-module _ (j : Job) (ss ts : List ℕ) (m : Mapping) (ws : List ℕ) (g : ℕ) (eg : g ≡ glue_of j ws) where
-  by_glue : (if not (eqb g m.glue) then Err (Refused (refusal 11 (glue_place (length ws)))) else Ok tt) ≡ account_of (terms_with j ss ts) m ws
+module _ (t : Terms) (m : Mapping) (ws : List ℕ) (g : ℕ) (eg : g ≡ glue t.width t.prices ws) where
+  by_glue : (if not (eqb g m.glue) then Err (Refused (refusal OtherGlue (glue_place (length ws)))) else Ok tt) ≡ account_of t m ws
   unfolding account_of
-  by_glue = ap (λ (x : ℕ). if not (eqb x m.glue) then Err (Refused (refusal 11 (glue_place (length ws)))) else Ok tt) eg
+  by_glue = ap (λ (x : ℕ). if not (eqb x m.glue) then Err (Refused (refusal OtherGlue (glue_place (length ws)))) else Ok tt) eg
 
-  pub other_glue : (g ≡ m.glue → ⊥) → Err (Refused (refusal 11 (glue_place (length ws)))) ≡ account_of (terms_with j ss ts) m ws
+  pub other_glue : (g ≡ m.glue → ⊥) → Err (Refused (refusal OtherGlue (glue_place (length ws)))) ≡ account_of t m ws
   other_glue h = rw (ne_eqb g m.glue h) at by_glue
 
-  pub same_glue : g ≡ m.glue → Ok tt ≡ account_of (terms_with j ss ts) m ws
+  pub same_glue : g ≡ m.glue → Ok tt ≡ account_of t m ws
   same_glue h = rw (eq-eqb g m.glue h) at by_glue
 
 -- ---- 9, 10, 11
@@ -68,8 +69,8 @@ module _ (t : Terms) (m : Mapping) (ws : List ℕ) (f : Option ℕ) (ef : f ≡ 
   unfolding fitting_of
   by_unbound o u = ap (λ (x : Option ℕ). unless_unbound x rest) (sym u ∙ ef)
 
-  pub incomplete : (g : ℕ) → f ≡ Some g → CheckRuled (fitting_of t m ws) (Err (Refused (refusal 9 g)))
-  incomplete g u = answers_to (Err (Refused (refusal 9 g))) (by_unbound (Some g) u) refl
+  pub incomplete : (g : ℕ) → f ≡ Some g → CheckRuled (fitting_of t m ws) (Err (Refused (refusal Incomplete g)))
+  incomplete g u = answers_to (Err (Refused (refusal Incomplete g))) (by_unbound (Some g) u) refl
 
   module _ (h : f ≡ None) (v : Verdict) (says : SaysOfAll t ws v) where
     complete : rest ≡ fitting_of t m ws
@@ -109,8 +110,8 @@ module _ (jw mw : List ℕ) (p : Result (Job × Mapping) PairError) (e : p ≡ p
   pub unread : (x : PairError) → p ≡ Err x → Checks jw mw (Err (of_pair x))
   unread x u = answers_to (Err (of_pair x)) (by_pair (Err x) u) refl
 
-  pub both_judged : (j : Job) (m : Mapping) → p ≡ Ok (j, m) → (ss ts ws : List ℕ) → ss ≡ sources_of jw j → ts ≡ targets_of jw j
-      → ws ≡ bindings_of mw m → (r : Result ⊤ CheckError) → CheckRuled (judgement_of (terms_with j ss ts) m ws) r → Checks jw mw r
-  both_judged j m u ss ts ws es et ew r h =
-      let same : judgement_of (terms_with j ss ts) m ws ≡ ruling_of jw mw = rw (es, et, ew) (by_pair (Ok (j, m)) u) in
+  pub both_judged : (j : Job) (m : Mapping) → p ≡ Ok (j, m) → (t : Terms) (ws : List ℕ) → t ≡ terms_of jw j
+      → ws ≡ bindings_of mw m → (r : Result ⊤ CheckError) → CheckRuled (judgement_of t m ws) r → Checks jw mw r
+  both_judged j m u t ws et ew r h =
+      let same : judgement_of t m ws ≡ ruling_of jw mw = rw (et, ew) (by_pair (Ok (j, m)) u) in
       answers_to r same h

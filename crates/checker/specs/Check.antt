@@ -16,6 +16,7 @@ use Rattle.glue.specs.Glue.{glue}
 use Rattle.completeness.specs.Complete.{first_unbound}
 use Rattle.rightness.specs.Rightness.{unless_wrong}
 use Rattle.checker.specs.declared.CheckError.TheVariants.{JobRefused, MappingRefused, Refused, Wrong}
+use Rattle.words.specs.declared.Fault.TheVariants.{Incomplete, OtherGlue}
 
 -- the answer in document 01's numbers
 abbrev pub paper_of : Result ⊤ CheckError → Paper
@@ -39,14 +40,14 @@ CheckRuled (Names c n) (Err (Wrong v)) = Differs c n v
 -- "11. Glue count differs; place: its word."
 unfoldable pub account_of : Terms → Mapping → List ℕ → Result ⊤ CheckError
 account_of t mapping bindings =
-    if not (eqb (glue t.width t.prices bindings) mapping.glue) then Err (Refused (refusal 11 (glue_place (length bindings))))
+    if not (eqb (glue t.width t.prices bindings) mapping.glue) then Err (Refused (refusal OtherGlue (glue_place (length bindings))))
     else Ok tt
 
 -- ---- the order: "1 first; then word by word, 2 to 6 in each; then 7 to 11"
 
 -- 9 names the source without a binding
 abbrev pub unless_unbound : Option ℕ → Ruling (Result ⊤ CheckError) → Ruling (Result ⊤ CheckError)
-unless_unbound (Some f) next = Gives (Err (Refused (refusal 9 (source_place f))))
+unless_unbound (Some f) next = Gives (Err (Refused (refusal Incomplete (source_place f))))
 unless_unbound None next = next
 
 -- a mapping that fits: 9, 10, 11

@@ -3,15 +3,15 @@
 #![tactic(auto)]
 
 ghost use Rattle.std.specs.Prelude.{◌≡◌};
-ghost use Rattle.bits.specs.Asked as Q;
 ghost use Rattle.table.specs.Parts as T;
 ghost use Rattle.checker.specs.Check as C;
 ghost use Rattle.checker.specs.declared.CheckError.TheVariants.{Refused};
 
 use fitting::PairError;
-use reader::{Job, Mapping};
+use reader::Mapping;
+use table::Terms;
 use verdict::Verdict;
-use words::{Refusal, Witness};
+use words::{Fault, Refusal, Witness};
 
 // A refusal of the checker: the first, 1 to 6, of the job or of the mapping; another, 7, 8, 9 or 11; or 10, with its values.
 #[derive(Clone, Copy)]
@@ -43,19 +43,12 @@ impl From<PairError> for CheckError {
 }
 
 // Whether the glue word says what the glue of the bindings is. The tables of a job have no part in that.
-fn account(
-    job: Job,
-    sources: &[u32],
-    targets: &[u32],
-    mapping: Mapping,
-    bindings: &[u32],
-) -> Result<(), CheckError>
-    requires { Q.Width job.width }
-    ensures { result ≡ C.account_of (T.terms_with job sources.now targets.now) mapping bindings.now }
+fn account(terms: &Terms, mapping: Mapping, bindings: &[u32]) -> Result<(), CheckError>
+    ensures { result ≡ C.account_of (T.terms_held terms.now) mapping bindings.now }
 {
-    if pricer::glue_of(job, bindings) != mapping.glue {
+    if pricer::glue_of(terms, bindings) != mapping.glue {
         return Err(CheckError::Refused(Refusal {
-            number: 11,
+            fault: Fault::OtherGlue,
             place: reader::BINDINGS_START + bindings.len(),
         }));
     }
@@ -63,42 +56,28 @@ fn account(
 }
 
 // A mapping that fits its job: is it complete, right and rightly priced?
-fn judge_fitting(
-    job: Job,
-    sources: &[u32],
-    targets: &[u32],
-    mapping: Mapping,
-    bindings: &[u32],
-) -> Result<(), CheckError>
-    requires { Q.Width job.width }
-    ensures { C.CheckRuled (C.fitting_of (T.terms_with job sources.now targets.now) mapping bindings.now) result }
+fn judge_fitting(terms: &Terms, mapping: Mapping, bindings: &[u32]) -> Result<(), CheckError>
+    ensures { C.CheckRuled (C.fitting_of (T.terms_held terms.now) mapping bindings.now) result }
 {
-    if let Some(unbound) = completeness::first_unbound(sources, bindings) {
+    if let Some(unbound) = completeness::first_unbound(terms.sources, bindings) {
         return Err(CheckError::Refused(Refusal {
-            number: 9,
+            fault: Fault::Incomplete,
             place: unbound as usize,
         }));
     }
-    let verdict = rightness::first_wrong(job, sources, targets, bindings);
+    let verdict = rightness::first_wrong(terms, bindings);
     match verdict {
         Verdict::Wrong(witness) => Err(CheckError::Wrong(witness)),
-        Verdict::Right => account(job, sources, targets, mapping, bindings),
+        Verdict::Right => account(terms, mapping, bindings),
     }
 }
 
 // A mapping that was read is judged against a job that was read.
-fn judge_mapping(
-    job: Job,
-    sources: &[u32],
-    targets: &[u32],
-    mapping: Mapping,
-    bindings: &[u32],
-) -> Result<(), CheckError>
-    requires { Q.Width job.width }
-    ensures { C.CheckRuled (C.judgement_of (T.terms_with job sources.now targets.now) mapping bindings.now) result }
+fn judge_mapping(terms: &Terms, mapping: Mapping, bindings: &[u32]) -> Result<(), CheckError>
+    ensures { C.CheckRuled (C.judgement_of (T.terms_held terms.now) mapping bindings.now) result }
 {
-    fitting::fit_of(job, sources, targets, mapping, bindings)?;
-    judge_fitting(job, sources, targets, mapping, bindings)
+    fitting::fit_of(terms, mapping, bindings)?;
+    judge_fitting(terms, mapping, bindings)
 }
 
 // The words of a job and of a mapping.
@@ -106,8 +85,7 @@ pub fn check(job: &[u32], mapping: &[u32]) -> Result<(), CheckError>
     ensures { C.Checks job.now mapping.now result }
 {
     let (facts, bound) = fitting::read_pair(job, mapping)?;
-    let sources = table::sources_of(job, facts);
-    let targets = table::targets_of(job, facts);
+    let terms = table::terms_of(job, facts);
     let bindings = table::bindings_of(mapping, bound);
-    judge_mapping(facts, sources, targets, bound, bindings)
+    judge_mapping(&terms, bound, bindings)
 }

@@ -23,37 +23,18 @@ pub fn none() -> Tallies {
 
 // Whether refusal 10 is borne out: the operands are the checker's choice, so that they are tried.
 fn is_shown(job: &[u32], mapping: &[u32], witness: words::Witness) -> bool {
-    wrong_is_borne_out(
-        job,
-        mapping,
-        Witness {
-            function: witness.function,
-            port: witness.port,
-            left: witness.left,
-            right: witness.right,
-            carry: witness.carry,
-        },
-    )
+    wrong_is_borne_out(job, mapping, told::witness_of(witness))
 }
 
 fn of_checked(answer: Result<(), CheckError>, job: &[u32], mapping: &[u32]) -> Result<(), Refusal> {
     match answer {
         Ok(()) => Ok(()),
-        Err(CheckError::JobRefused(refusal)) => Err(refused(
-            Subject::Job,
-            refusal.number,
-            refusal.place,
-        )),
-        Err(CheckError::MappingRefused(refusal)) => Err(refused(
+        Err(CheckError::JobRefused(refusal)) => Err(told::refusal_of(Subject::Job, refusal)),
+        Err(CheckError::MappingRefused(refusal)) => Err(told::refusal_of(
             Subject::Mapping,
-            refusal.number,
-            refusal.place,
+            refusal,
         )),
-        Err(CheckError::Refused(refusal)) => Err(refused(
-            Subject::Both,
-            refusal.number,
-            refusal.place,
-        )),
+        Err(CheckError::Refused(refusal)) => Err(told::refusal_of(Subject::Both, refusal)),
         Err(CheckError::Wrong(witness)) => {
             Err(wrong(
                 Subject::Both,
@@ -67,21 +48,9 @@ fn of_checked(answer: Result<(), CheckError>, job: &[u32], mapping: &[u32]) -> R
 pub fn of_priced(answer: Result<u32, PairError>) -> Result<u32, Refusal> {
     match answer {
         Ok(count) => Ok(count),
-        Err(PairError::JobRefused(refusal)) => Err(refused(
-            Subject::Job,
-            refusal.number,
-            refusal.place,
-        )),
-        Err(PairError::MappingRefused(refusal)) => Err(refused(
-            Subject::Mapping,
-            refusal.number,
-            refusal.place,
-        )),
-        Err(PairError::Refused(refusal)) => Err(refused(
-            Subject::Both,
-            refusal.number,
-            refusal.place,
-        )),
+        Err(PairError::JobRefused(refusal)) => Err(told::refusal_of(Subject::Job, refusal)),
+        Err(PairError::MappingRefused(refusal)) => Err(told::refusal_of(Subject::Mapping, refusal)),
+        Err(PairError::Refused(refusal)) => Err(told::refusal_of(Subject::Both, refusal)),
     }
 }
 

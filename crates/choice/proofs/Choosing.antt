@@ -10,8 +10,7 @@ use lib.Seq.{take-suc-set, get_or-append-add}
 use Rattle.std.specs.Prelude.{Option, Some, None, Result, Ok, Err}
 use Rattle.words.specs.Field.{source_function}
 use Rattle.words.proofs.Lists.{drop-next}
-use Rattle.reader.specs.declared.Job.{Job}
-use Rattle.table.specs.Parts.{Terms, terms_with}
+use Rattle.table.specs.Parts.{Terms}
 use Rattle.usage.specs.Sets.{usage, usage_of}
 use Rattle.usage.proofs.Joining.{usage-more}
 use Rattle.tally.proofs.Joining.{glue_more}
@@ -43,18 +42,15 @@ module _ (rules book : List ℕ) (i : ℕ) where
 
 -- ---- a source
 
-module _ (j : Job) (ss ts rules sources words : List ℕ) (i used : ℕ) (whole : Result (List ℕ) ℕ)
-    (eu : used ≡ usage (take i words)) (e : choose (terms_with j ss ts) rules (take i words) (drop i sources) ≡ whole) where
-  abbrev t : Terms
-  t = terms_with j ss ts
-
+module _ (t : Terms) (rules sources words : List ℕ) (i used : ℕ) (whole : Result (List ℕ) ℕ)
+    (eu : used ≡ usage (take i words)) (e : choose t rules (take i words) (drop i sources) ≡ whole) where
   module _ (h : i < length sources) (f : ℕ) (ef : f ≡ source_function (get_or sources i 0)) (best : Option Best)
-      (eb : best ≡ best_of (besides j.width j.prices used) (terms_with j ss ts) f None rules) where
+      (eb : best ≡ best_of (besides t.width t.prices used) t f None rules) where
     best_is : best_of (with_rule t (take i words)) t (source_function (get_or sources i 0)) None rules ≡ best
     best_is =
-        best_same t (source_function (get_or sources i 0)) (with_rule t (take i words)) (besides j.width j.prices used)
-        (λ w. sym (glue_more j.width j.prices (take i words) w) ∙ ap (λ (x : ℕ). besides j.width j.prices x w) (sym eu)) None rules
-        ∙ ap (λ (x : ℕ). best_of (besides j.width j.prices used) t x None rules) (sym ef) ∙ sym eb
+        best_same t (source_function (get_or sources i 0)) (with_rule t (take i words)) (besides t.width t.prices used)
+        (λ w. sym (glue_more t.width t.prices (take i words) w) ∙ ap (λ (x : ℕ). besides t.width t.prices x w) (sym eu)) None rules
+        ∙ ap (λ (x : ℕ). best_of (besides t.width t.prices used) t x None rules) (sym ef) ∙ sym eb
 
     opened : (b : Option Best) → best ≡ b → bind_best b f (λ w. choose t rules (take i words ++ w ∷ []) (drop (i + 1) sources)) ≡ whole
     unfolding choose
@@ -68,7 +64,7 @@ module _ (j : Job) (ss ts rules sources words : List ℕ) (i used : ℕ) (whole 
     one_more w l = rw add-one (take-suc-set words i w l)
 
     pub source_bound : (b : Best) → best ≡ Some b → i < length words
-        → choose (terms_with j ss ts) rules (take (i + 1) (set words i b.word)) (drop (i + 1) sources) ≡ whole
+        → choose t rules (take (i + 1) (set words i b.word)) (drop (i + 1) sources) ≡ whole
     source_bound b u l = rw (one_more b.word l) (opened (Some b) u)
 
     pub source_used : (w u : ℕ) → i < length words → u ≡ usage_of w → bit_or used u ≡ usage (take (i + 1) (set words i w))

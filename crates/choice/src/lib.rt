@@ -2,15 +2,14 @@
 #![tactic(auto)]
 
 ghost use Rattle.std.specs.Prelude.{◌≡◌, [], ◌++◌, ◌+◌, ◌<◌, ◌≤◌, length, get_or};
-ghost use Rattle.bits.specs.Asked as Q;
 ghost use Rattle.sequence.specs.Limits.{most_sources};
 ghost use Rattle.table.specs.Parts as T;
 ghost use Rattle.choice.specs.Choose as C;
 ghost use Rattle.choice.specs.Chosen as K;
 
 use best::Best;
-use reader::Job;
 use sequence::MOST_SOURCES;
+use table::Terms;
 
 // A rule for each source in table order, and what they use.
 #[derive(Clone, Copy)]
@@ -32,24 +31,19 @@ fn rule_at(rules: &[u32], book: &[u32], index: usize) -> u32
 
 // "Sources are taken in order; each gets the usable rule that makes the glue of the bindings so far least, the earlier rule on equal
 // glue." The loop over the sources is left from inside when a function proves unmappable, which is the error.
-pub fn choose(
-    job: Job,
-    sources: &[u32],
-    targets: &[u32],
-    rules: &[u32],
-    book: &[u32],
-) -> Result<Chosen, u32>
-    requires { Q.Width job.width × (length sources.now ≤ most_sources) × K.FewRules rules.now book.now }
-    ensures { K.KeptChoice result (length sources.now)
-        (C.choose (T.terms_with job sources.now targets.now) (rules.now ++ book.now) [] sources.now) }
+pub fn choose(terms: &Terms, rules: &[u32], book: &[u32]) -> Result<Chosen, u32>
+    requires { (length terms.now.sources.now ≤ most_sources) × K.FewRules rules.now book.now }
+    ensures { K.KeptChoice result (length terms.now.sources.now)
+        (C.choose (T.terms_held terms.now) (rules.now ++ book.now) [] terms.now.sources.now) }
 {
     let count = rules.len() + book.len();
     let mut bound = [0u32; MOST_SOURCES];
     let mut used: u64 = 0;
     let mut unmappable: Option<u32> = None;
-    'sources: for (i, source) in sources.iter().enumerate() {
+    'sources: for (i, source) in terms.sources.iter().enumerate() {
         let function = words::source_function(*source);
         let mut best: Option<Best> = None;
+        // Kept: document 01 names the form: "inner loop over rules, left from inside".
         let mut j = 0;
         let chosen = loop {
             if count <= j {
@@ -62,7 +56,7 @@ pub fn choose(
                 }
             }
             let rule = rule_at(rules, book, j);
-            best = best::consider(best, rule, function, used, job, sources, targets);
+            best = best::consider(best, rule, function, used, terms);
             j += 1;
         };
         bound[i] = chosen.word;

@@ -9,7 +9,7 @@ use borrow.Author.Tests.{ne_eqb, le-leb, lt-ltb, le-ltb, ltb-true, ltb-false}
 use lib.Dec.{eqb, leb, ltb}
 use lib.ListN.{length, take, drop, set, length-set}
 use lib.Seq.{take_all, take-nil, take-suc, take-set-le, take-append-le, length-take-le, get_or-set_same}
-use Rattle.std.specs.Prelude.{Option, None, Some, ◌&&◌, if◌then◌else◌}
+use Rattle.std.specs.Prelude.{Option, None, Some, ◌&&◌}
 use Rattle.std.proofs.Common.{nat_eq}
 use Rattle.std.specs.Option.{option_map, option_and_then}
 use Rattle.std.specs.Str.{bytes_eq}

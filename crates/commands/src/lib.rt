@@ -69,7 +69,7 @@ fn bind_command(digits: &[u8]) -> Option<Command>
 const DIGITS: u32 = 10;
 
 // A release of the function whose decimal digits these are.
-#[tactic(auto, unfolding(crate::specs::Commands::release_command))]
+#[tactic(auto, using(crate::proofs::Release::no_digit, crate::proofs::Release::no_decimal, crate::proofs::Release::too_large, crate::proofs::Release::one_read, crate::proofs::Release::all_read), unfolding(crate::specs::Commands::release_command))]
 fn release_command(digits: &[u8]) -> Option<Command>
     ensures { result ≡ C.release_command digits.now }
 {

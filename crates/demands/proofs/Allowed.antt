@@ -6,8 +6,8 @@ use Prim.Native.Nat.{ℕ, ◌<◌}
 use native.Mathlib.Omega.{arith}
 use lib.ListN.{length, get_or, set, length-take}
 use lib.Seq.{get_or-set_same, get_or-set_other, set_comm}
-use borrow.Author.Tests.{eq-eqb, not-false}
-use Rattle.words.specs.Paper.{Paper, accepted}
+use borrow.Author.Tests.{not-false}
+use Rattle.words.specs.Paper.{Paper, number_of, accepted}
 use Rattle.words.proofs.Choices.{either}
 use Rattle.recipe.specs.Fields.{source_of}
 use Rattle.binding.specs.Right.{is_right}
@@ -17,11 +17,13 @@ use Rattle.sequence.specs.Limits.{most_sources}
 use Rattle.soundness.specs.Sound.{sources_on, rule_fault}
 use Rattle.soundness.proofs.Soundness.{sound_sources}
 use Rattle.entries.proofs.Searching.{nothing_there, not_bound}
-use Rattle.bench.specs.Calls.{sound_bench, holding, gives, bind_check, bind_for, claim_on, bind_of, WrongAt, BindRuled, Binds, paper_of}
+use Rattle.bench.specs.Calls.{sound_bench, holding, gives, table_check, bind_check, bind_for, claim_on, bind_of, WrongAt, BindRuled, Binds, paper_of}
 use Rattle.bench.specs.declared.Bench.{Bench}
 use Rattle.bench.specs.declared.CallError.{CallError}
 use Rattle.bench.specs.declared.CallError.TheVariants.{Refused, Wrong}
-use Rattle.std.specs.Prelude.{Result, Ok, Err, ⊤}
+use Rattle.std.specs.Prelude.{None, Result, Ok, Err, ⊤}
+use Rattle.std.proofs.lemmas.Option.{none-some}
+use Rattle.words.specs.declared.Fault.TheVariants.{OutOfSequence}
 use Rattle.words.specs.declared.Refusal.{Refusal}
 use Rattle.demands.specs.Answers.{among, bind_numbers}
 use Rattle.demands.proofs.Numbered.{check_refused}
@@ -41,8 +43,8 @@ bound_on b w = holding b (set b.bound (place_for b (source_of w)) w)
 -- ---- the answer
 
 passes : (b : Bench) (w : ℕ) → Checked b w → bind_check b w ≡ Ok tt
-unfolding bind_check
-passes b w c = rw c.sound (rw (eq-eqb (rule_fault w) 0 c.a_rule) (rw c.there (rw c.free refl)))
+unfolding bind_check table_check
+passes b w c = rw c.sound (rw c.a_rule (rw c.there (rw c.free refl)))
 
 pub allowed_gives : (b : Bench) (w : ℕ) → Allowed b w → bind_of b w ≡ Gives (gives (bound_on b w) (Ok tt))
 unfolding bind_of
@@ -72,7 +74,7 @@ outcome b w r a = go (bind_check b w) refl a
     go (Err x) f =
         λ e.
         Unchanged
-        (λ p. listed_some x.number (check_refused b w x f)
+        (λ p. listed_some (number_of x.fault) (check_refused b w x f)
         (sym (ap (λ (x : After ⊤). (paper_of x.answer).number) e) ∙ ap (λ (x : Paper). x.number) p))
         (ap (λ (x : After ⊤). x.bench) e)
     go (Ok tt) f =
@@ -85,9 +87,9 @@ outcome b w r a = go (bind_check b w) refl a
 
 -- ---- two binds change places
 
-pub rule_some : (w : ℕ) → rule_fault w ≡ 0 → w ≡ 0 → ⊥
+pub rule_some : (w : ℕ) → rule_fault w ≡ None → w ≡ 0 → ⊥
 unfolding rule_fault
-rule_some w h e = let z : rule_fault 0 ≡ 0 = ap rule_fault (sym e) ∙ h in omega arith
+rule_some w h e = none-some OutOfSequence (sym h ∙ ap rule_fault e)
 
 pub nothing-there : (b : Bench) (w : ℕ) → Checked b w → get_or b.bound (place_for b (source_of w)) 0 ≡ 0
 nothing-there b w c = nothing_there (sources_on b.tables) (source_of w) b.bound (tables_entry b w c.there) c.free

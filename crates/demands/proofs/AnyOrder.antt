@@ -9,7 +9,7 @@ use lib.Dec.{eqb}
 use lib.ListN.{length, get_or, set, replicate, length-append, length-set}
 use lib.Seq.{get_or-append_seam, set-append_seam}
 use borrow.Author.Tests.{eq-eqb, ne_eqb}
-use Rattle.words.specs.Field.{kind_of, source_function}
+use Rattle.words.specs.Field.{source_function}
 use Rattle.recipe.specs.Fields.{source_of}
 use Rattle.verdict.specs.Verdicts.{Ruling}
 use Rattle.sequence.specs.Limits.{most_sources}
@@ -19,7 +19,7 @@ use Rattle.wellformed.proofs.JobWords.{JobFacts, well_formed}
 use Rattle.table.specs.Parts.{sources_of}
 use Rattle.table.specs.Table.{lists_source, has_target}
 use Rattle.table.proofs.Entries.{in_job-when}
-use Rattle.std.specs.Prelude.{Ok, ⊤}
+use Rattle.std.specs.Prelude.{None, Ok, ⊤}
 use Rattle.mapper.specs.Mapping.{choice_of}
 use Rattle.soundness.specs.Sound.{sources_on, targets_on, rule_fault}
 use Rattle.soundness.proofs.Soundness.{a_rule}
@@ -151,10 +151,10 @@ module _ (ws : List ℕ) (job : Job) (e : WellFormedJob ws job) (bound : List �
       ap₂ place_of (same_sources ws job e) (its_source k h)
       ∙ place_of_lem (sources_of ws job) k (omega (arith, size, source_count ws job e)) (sources_apart k h)
 
-  pub is_rule : (k : ℕ) → k < length bound → rule_fault (get_or bound k 0) ≡ 0
+  pub is_rule : (k : ℕ) → k < length bound → rule_fault (get_or bound k 0) ≡ None
   is_rule k h =
       let r = chosen_rule ws job e bound eb k h in
-      sym (a_rule (get_or bound k 0) (kind_of (get_or bound k 0)) refl 0 r.kind_is (sym r.no_fault))
+      sym (a_rule (get_or bound k 0) None r.kind_is (sym r.no_fault))
 
   -- a bind of a chosen rule is accepted where its source is not bound yet
   pub choice_allowed : (held : List ℕ) → sound_bench (holding (opened ws job) held) ≡ true → (k : ℕ) → k < length bound

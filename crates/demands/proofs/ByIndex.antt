@@ -39,6 +39,7 @@ use Rattle.checker.specs.declared.CheckError.TheVariants.{JobRefused, MappingRef
 use Rattle.demands.specs.Mapped.{source_at, binding_at, claim_at, Bound, Complete, RightAt, AllRight, RightlyMapped, NamesUnbound, NamesWrong}
 use Rattle.demands.proofs.Parts.{part_length, part_at, rises_to, source_at_lem}
 use Rattle.demands.proofs.Firsts.{First, Passes, first_failing, first_least, bound_at, at_bound, bound_in, all_bound_none, unbound_first, none_all_bound, right_under, all_right_next, wrong_first, accepted_all_right}
+use Rattle.words.specs.declared.Fault.TheVariants.{Incomplete}
 
 -- ---- rightness as a test
 
@@ -195,12 +196,12 @@ module _ (jw mw : List ℕ) (j : Job) (m : Mapping) (ej : WellFormedJob jw j) (e
   ruled x e r h = subst (λ (y : Ruling (Result ⊤ CheckError)). CheckRuled y r) e h
 
   unbound_named : fit ≡ Ok tt → (at : ℕ) → First (bound_in bindings) sources at → at < j.sources
-      → (r : Result ⊤ CheckError) → Checks jw mw r → r ≡ Err (Refused (refusal 9 (source_place (source_at jw at))))
+      → (r : Result ⊤ CheckError) → Checks jw mw r → r ≡ Err (Refused (refusal Incomplete (source_place (source_at jw at))))
   unfolding fitting_of
   unbound_named e at first within r h =
       let f : first_unbound sources bindings ≡ Some (source_at jw at)
       = unbound_first bindings sources at first ∙ ap Some (source_at_lem jw j at within) in
-      ruled (Gives (Err (Refused (refusal 9 (source_place (source_at jw at))))))
+      ruled (Gives (Err (Refused (refusal Incomplete (source_place (source_at jw at))))))
       (fitted e ∙ ap (λ (x : Option ℕ). unless_unbound x (unless_wrong t bindings (Gives (account_of t m bindings)))) f) r h
 
   names-unbound : fit ≡ Ok tt → (at : ℕ) → First (bound_in bindings) sources at → (r : Result ⊤ CheckError) → Checks jw mw r → NamesUnbound jw mw j m r

@@ -7,7 +7,7 @@ use mathlib.Core.List.{List, [], ◌∷◌, ◌++◌, Permᴰ}
 use Prim.Native.Nat.{ℕ, ◌≤◌, ◌<◌}
 use native.Mathlib.Omega.{arith}
 use lib.ListN.{length, drop, get_or}
-use Rattle.words.specs.Paper.{Paper, accepted}
+use Rattle.words.specs.Paper.{Paper, number_of, accepted}
 use Rattle.binding.specs.Right.{Right}
 use Rattle.binding.specs.declared.Claim.{Claim}
 use Rattle.verdict.specs.Verdicts.{Says, verdict_paper, Ruling, Judged, judgement_paper}
@@ -103,7 +103,7 @@ module _ (ws lent : List ℕ) where
   writes_only_what_can_be_mapped n a = by_outcome (outcome ws lent)
     where
       by_outcome : Outcome ws lent → (m : Mappable ws) × (words_needed m.job.sources ≤ length lent)
-      by_outcome (Unread r e p _) = accepted_apart n r.number r.place (sym a ∙ p)
+      by_outcome (Unread r e p _) = accepted_apart n (number_of r.fault) r.place (sym a ∙ p)
       by_outcome (Unmapped job place e c p _) = accepted_apart n 12 place (sym a ∙ p)
       by_outcome (Short job bound e c h p _) = accepted_apart n 23 (words_needed job.sources) (sym a ∙ p)
       by_outcome (Writes job bound e c h _ _) =

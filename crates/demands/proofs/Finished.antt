@@ -1,6 +1,6 @@
 -- A sound bench with every source bound holds a right recipe of each source, and finishes.
 use mathlib.Core.Path.{◌≡◌, refl, sym, ap, subst, ◌∙◌}
-use mathlib.Core.Bool.{true, false, not}
+use mathlib.Core.Bool.{Bool, true, false, not, false≢true}
 use mathlib.Core.List.{List, [], ◌∷◌, ◌++◌}
 use Prim.Native.Nat.{ℕ, zero, suc, ◌≤◌, ◌<◌}
 use native.Mathlib.Omega.{arith}
@@ -8,7 +8,10 @@ use lib.Dec.{eqb}
 use lib.ListN.{length, drop, get_or}
 use lib.Seq.{get_or-take}
 use borrow.Author.Tests.{ne_eqb, eqb-true, eqb-false, le-ltb}
-use Rattle.std.specs.Prelude.{if◌then◌else◌, None, Ok}
+use Rattle.std.specs.Prelude.{if◌then◌else◌, Option, Some, None, is_some, Ok}
+use Rattle.std.proofs.lemmas.Option.{none-some}
+use Rattle.words.specs.declared.Fault.{Fault}
+use Rattle.words.specs.declared.Fault.TheVariants.{OutOfSequence}
 use Rattle.words.specs.Field.{kind_of, source_function}
 use Rattle.words.specs.Kinds.{RULE}
 use Rattle.words.proofs.Choices.{either}
@@ -33,15 +36,21 @@ use Rattle.demands.proofs.Keeping.{both}
 
 -- "a right kind 5 recipe that passes 3, 5 and 6, whose source it is, .. from a target of the job or from scratch"
 pub record BoundRecipe (n : ℕ) (all ts : List ℕ) (s w : ℕ) : Type 0 where
-  pub a_rule : rule_fault w ≡ 0
+  pub a_rule : rule_fault w ≡ None
   pub its_source : source_of w ≡ source_function s
   pub target_there : has_target ts w ≡ true
   pub is_right_lem : is_right (claim_in all ts w) n ≡ true
 
-pub rule_recipe : (w : ℕ) → rule_fault w ≡ 0 → recipe_fault w ≡ 0
+pub rule_recipe : (w : ℕ) → rule_fault w ≡ None → recipe_fault w ≡ None
 unfolding rule_fault
 rule_recipe w =
-    either (λ (x : ℕ). x ≡ 0 → recipe_fault w ≡ 0) (not (eqb (kind_of w) RULE)) (λ _ e. absurd (omega arith)) (λ _ e. e)
+    either (λ (x : Option Fault). x ≡ None → recipe_fault w ≡ None) (not (eqb (kind_of w) RULE))
+    (λ _ e. absurd (none-some OutOfSequence (sym e))) (λ _ e. e)
+
+-- no fault, and then the other tests
+unfaulted : (o : Option Fault) (q : Bool) → (if is_some o then false else q) ≡ true → (o ≡ None) × (q ≡ true)
+unfaulted None q e = (refl, e)
+unfaulted (Some fault) q e = absurd (false≢true e)
 
 module _ (n : ℕ) (all ts : List ℕ) where
   -- in the entry of a source nothing stands, or a recipe of it
@@ -58,11 +67,11 @@ module _ (n : ℕ) (all ts : List ℕ) where
   unfolding entry_sound bindable
   recipe_at s w e some =
       let t = if not (has_target ts w) then false else is_right (claim_in all ts w) n in
-      let p = both (eqb (rule_fault w) 0) (if not (eqb (source_of w) (source_function s)) then false else t) (rw (ne_eqb w 0 some) at e) in
+      let p = unfaulted (rule_fault w) (if not (eqb (source_of w) (source_function s)) then false else t) (rw (ne_eqb w 0 some) at e) in
       let q = both (eqb (source_of w) (source_function s)) t p.1 in
       let r = both (has_target ts w) (is_right (claim_in all ts w) n) q.1 in
       record {
-        a_rule = eqb-true (rule_fault w) 0 p.0;
+        a_rule = p.0;
         its_source = eqb-true (source_of w) (source_function s) q.0;
         target_there = r.0;
         is_right_lem = r.1;

@@ -35,6 +35,7 @@ use Rattle.demands.proofs.Finished.{none_empty, binding_number}
 use Rattle.demands.proofs.Accepted.{rightly_mapped}
 use Rattle.demands.proofs.Benches.{same_sources, shaped, all_bindable}
 use Rattle.demands.proofs.AnyOrder.{size, is_rule}
+use Rattle.words.specs.declared.Fault.TheVariants.{NotSound, TooFewWords}
 
 module _ (ws : List ℕ) (job : Job) (e : WellFormedJob ws job) (b : Bench) (o : BenchOf ws job b) where
   pub bench_shaped : Shaped b
@@ -105,7 +106,7 @@ module _ (b : Bench) (h : Shaped b) (lent : List ℕ) where
   refused-lent e = by_soundness (sound_bench b) refl (unbound_on b) refl e
     where
       too_few : sound_bench b ≡ true → unbound_on b ≡ None → (c : Bool) → ltb (length lent) (words_needed b.tables.nsources) ≡ c
-          → is_ok (finish_written (if c then Err (refusal 23 (words_needed b.tables.nsources)) else Ok (words_needed b.tables.nsources)))
+          → is_ok (finish_written (if c then Err (refusal TooFewWords (words_needed b.tables.nsources)) else Ok (words_needed b.tables.nsources)))
           ≡ false
           → lent_after (mapping_on b) lent ≡ lent
       too_few s u true z e =
@@ -119,7 +120,7 @@ module _ (b : Bench) (h : Shaped b) (lent : List ℕ) where
       too_few s u false z e = absurd (true≢false e)
 
       by_soundness : (p : Bool) → sound_bench b ≡ p → (q : Option ℕ) → unbound_on b ≡ q
-          → is_ok (if not p then Err (Refused (refusal 20 0)) else finish_for b lent q) ≡ false
+          → is_ok (if not p then Err (Refused (refusal NotSound 0)) else finish_for b lent q) ≡ false
           → (if not p then lent else lent_for b lent q) ≡ lent
       by_soundness true s None u e = too_few s u (ltb (length lent) (words_needed b.tables.nsources)) refl e
       by_soundness true s (Some f) u e = refl

@@ -4,34 +4,37 @@ use mathlib.Core.Bool.{true, not}
 use mathlib.Core.List.{[]}
 use Prim.Native.Nat.{ℕ}
 use native.Mathlib.Omega.{arith}
-use lib.Dec.{eqb}
-use borrow.Author.Tests.{eq-eqb, eqb-true, eqb-false, not-true, not-false}
+use borrow.Author.Tests.{not-false}
 use Rattle.words.specs.Field.{kind_of}
 use Rattle.words.specs.Kinds.{is_recipe}
-use Rattle.words.specs.Paper.{Paper, refusal, no_refusal, accepted}
+use Rattle.words.specs.Paper.{Paper, number_of, refusal, accepted}
+use Rattle.words.specs.declared.Fault.{Fault}
+use Rattle.words.specs.declared.Fault.TheVariants.{NotLaidOut, OtherOutputs, OutOfSequence, ReadsUndriven}
 use Rattle.words.specs.declared.Refusal.{Refusal}
 use Rattle.words.proofs.Choices.{either}
 use Rattle.alu.specs.Range.{is_width}
 use Rattle.layout.specs.Layout.{recipe_fault}
 use Rattle.binding.specs.Right.{claim_of}
-use Rattle.verdict.specs.Verdicts.{Sentence, Refuses, Decides, Passes, judge_of, Judged, judgement_paper}
+use Rattle.verdict.specs.Verdicts.{Sentence, Refuses, Decides, unless, Passes, judge_of, Judged, judgement_paper}
 use Rattle.verdict.specs.declared.Verdict.TheVariants as verdict
-use Rattle.std.specs.Prelude.{Result, Ok, Err}
+use Rattle.std.specs.Prelude.{if◌then◌else◌, None, Result, Ok, Err}
 use Rattle.verdict.specs.declared.Verdict.{Verdict}
 use Rattle.verdict.proofs.Verdicting.{not_right}
 use Rattle.demands.specs.Mapped.{RightRecipe}
+use Rattle.demands.proofs.Numbered.{recipe_number}
 
 -- a refusal is told with its number
-told_number : (number place : ℕ) (j : Result Verdict Refusal) → Passes (Refuses (refusal number place)) j → (judgement_paper j).number ≡ number
-told_number number place (Err r) e = ap (λ (x : Refusal). x.number) e
-told_number number place (Ok v) e = absurd e
+told_number : (fault : Fault) (place : ℕ) (j : Result Verdict Refusal) → Passes (Refuses (refusal fault place)) j
+    → (judgement_paper j).number ≡ number_of fault
+told_number fault place (Err r) e = ap (λ (x : Refusal). number_of x.fault) e
+told_number fault place (Ok v) e = absurd e
 
 module _ (w n : ℕ) (j : Result Verdict Refusal) where
-  not_accepted : {Q : Type 0} (number place : ℕ) → (number ≡ 0 → ⊥) → Passes (Refuses (refusal number place)) j
+  not_accepted : {Q : Type 0} (fault : Fault) (place : ℕ) → (number_of fault ≡ 0 → ⊥) → Passes (Refuses (refusal fault place)) j
       → judgement_paper j ≡ accepted [] → Q
-  not_accepted number place some e a = absurd (some (sym (told_number number place j e) ∙ ap (λ (x : Paper). x.number) a))
+  not_accepted fault place some e a = absurd (some (sym (told_number fault place j e) ∙ ap (λ (x : Paper). x.number) a))
 
-  decided : is_recipe (kind_of w) ≡ true → recipe_fault w ≡ no_refusal → is_width n ≡ true → Passes (Decides (claim_of w) n) j
+  decided : is_recipe (kind_of w) ≡ true → recipe_fault w ≡ None → is_width n ≡ true → Passes (Decides (claim_of w) n) j
       → judgement_paper j ≡ accepted [] → RightRecipe w n
   decided k f h = by_verdict j
     where
@@ -45,18 +48,20 @@ module _ (w n : ℕ) (j : Result Verdict Refusal) where
   unfolding judge_of
   judged_right =
       let P : Sentence → Type 0 = λ x. Passes x j → judgement_paper j ≡ accepted [] → RightRecipe w n in
-      either P (not (is_recipe (kind_of w))) (λ _. not_accepted 2 0 (λ z. omega arith))
-      (λ k. either P (not (eqb (recipe_fault w) no_refusal))
-      (λ f. not_accepted (recipe_fault w) 0 (eqb-false (recipe_fault w) no_refusal (not-true (eqb (recipe_fault w) no_refusal) f)))
-      (λ f. either P (not (is_width n)) (λ _. not_accepted 3 1 (λ z. omega arith))
-      (λ h. decided (not-false (is_recipe (kind_of w)) k)
-      (eqb-true (recipe_fault w) no_refusal (not-false (eqb (recipe_fault w) no_refusal) f)) (not-false (is_width n) h))))
+      let width = if not (is_width n) then Refuses (refusal NotLaidOut 1) else Decides (claim_of w) n in
+      either P (not (is_recipe (kind_of w))) (λ _. not_accepted OutOfSequence 0 (λ z. omega arith))
+      (λ k. recipe_number (λ x. recipe_fault w ≡ x → P (unless x width)) w
+      (λ _. not_accepted NotLaidOut 0 (λ z. omega arith))
+      (λ _. not_accepted ReadsUndriven 0 (λ z. omega arith))
+      (λ _. not_accepted OtherOutputs 0 (λ z. omega arith))
+      (λ f. either P (not (is_width n)) (λ _. not_accepted NotLaidOut 1 (λ z. omega arith))
+      (λ h. decided (not-false (is_recipe (kind_of w)) k) f (not-false (is_width n) h))) refl)
 
   pub right_judged : Judged w n j → RightRecipe w n → judgement_paper j ≡ accepted []
   unfolding judge_of
   right_judged answer q =
       let sentence : judge_of w n ≡ Decides (claim_of w) n
-      = rw q.a_recipe (rw (eq-eqb (recipe_fault w) no_refusal q.faultless) (rw q.a_width refl)) in
+      = rw q.a_recipe (rw q.faultless (rw q.a_width refl)) in
       by_verdict j (subst (λ (x : Sentence). Passes x j) sentence answer)
     where
       by_verdict : (j : Result Verdict Refusal) → Passes (Decides (claim_of w) n) j → judgement_paper j ≡ accepted []

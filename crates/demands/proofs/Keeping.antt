@@ -7,7 +7,7 @@ use native.Mathlib.Numerals.{one-add}
 use lib.Dec.{eqb}
 use lib.ListN.{set}
 use borrow.Author.Tests.{eq-eqb, eqb-true, not-false}
-use Rattle.std.specs.Prelude.{if◌then◌else◌, Result, Ok, Err, ⊤}
+use Rattle.std.specs.Prelude.{if◌then◌else◌, None, Result, Ok, Err, ⊤}
 use Rattle.words.specs.Field.{source_function}
 use Rattle.words.specs.declared.Refusal.{Refusal}
 use Rattle.words.proofs.Choices.{either}
@@ -30,14 +30,14 @@ pub both : (p q : Bool) → (if not p then false else q) ≡ true → (p ≡ tru
 both true q e = (refl, e)
 both false q e = absurd (false≢true e)
 
-module _ (n : ℕ) (all ts : List ℕ) (w : ℕ) (rule : rule_fault w ≡ 0) (target : has_target ts w ≡ true)
+module _ (n : ℕ) (all ts : List ℕ) (w : ℕ) (rule : rule_fault w ≡ None) (target : has_target ts w ≡ true)
     (right : is_right (claim_in all ts w) n ≡ true) where
   -- a recipe that may be bound is sound in its source's entry
   bindable_sound : (s : ℕ) → source_of w ≡ source_function s → entry_sound n all ts s w ≡ true
   unfolding entry_sound bindable
   bindable_sound s source =
       either (λ b. b ≡ true) (eqb w 0) (λ _. refl)
-      (λ _. rw (eq-eqb (rule_fault w) 0 rule) (rw (eq-eqb (source_of w) (source_function s) source) (rw target right)))
+      (λ _. rw rule (rw (eq-eqb (source_of w) (source_function s) source) (rw target right)))
 
   entries_keep : (ss bs : List ℕ) → lists_source ss (source_of w) ≡ true → bound_sound n all ts ss bs ≡ true
       → bound_sound n all ts ss (set bs (place_of ss (source_of w)) w) ≡ true

@@ -1,15 +1,15 @@
 -- How the answers of each call are numbered: what Refusals.antt rests on.
 use mathlib.Core.Path.{◌≡◌, refl, sym, ap, subst, ◌∙◌}
-use mathlib.Core.Bool.{Bool, true, false, not}
+use mathlib.Core.Bool.{Bool, true, not}
 use mathlib.Core.List.{List, [], ◌∷◌, ◌++◌}
 use Prim.Native.Nat.{ℕ, zero, suc, ◌+◌, ◌≤◌}
 use native.Mathlib.Omega.{arith}
 use lib.Dec.{eqb}
-use borrow.Author.Tests.{not-true}
 use Rattle.std.specs.Prelude.{is_ok, if◌then◌else◌, Result, Ok, Err, ⊤, Option, Some, None}
 use Rattle.words.specs.Field.{kind_of}
 use Rattle.words.specs.Kinds.{RULE}
-use Rattle.words.specs.Paper.{Paper, refusal, no_refusal}
+use Rattle.words.specs.Paper.{Paper, number_of, refusal, unless_fault, no_refusal}
+use Rattle.words.specs.declared.Fault.{Fault}
 use Rattle.words.specs.declared.Refusal.{Refusal}
 use Rattle.words.proofs.Choices.{either}
 use Rattle.layout.specs.Layout.{laid_out, reads_undriven, shows_other, recipe_fault}
@@ -34,7 +34,7 @@ use Rattle.checker.specs.declared.CheckError.TheVariants as checked
 use Rattle.rightness.specs.Rightness.{unless_wrong}
 use Rattle.rightness.proofs.Judging.{right_or_named}
 use Rattle.soundness.specs.Sound.{rule_fault}
-use Rattle.bench.specs.Calls.{sound_bench, in_tables, has_binding, bind_check, WrongAt, BindRuled}
+use Rattle.bench.specs.Calls.{sound_bench, in_tables, has_binding, table_check, bind_check, WrongAt, BindRuled}
 use Rattle.bench.specs.Calls as bench
 use Rattle.bench.specs.declared.Bench.{Bench}
 use Rattle.bench.specs.declared.CallError.{CallError}
@@ -45,6 +45,7 @@ use Rattle.reader.specs.Mapping.{mapping_of}
 use Rattle.wellformed.proofs.Numbers.{job_number, mapping_number}
 use Rattle.fitting.specs.Pair.{pair_of, with_job}
 use Rattle.demands.specs.Answers.{among, OneNumber, judge_numbers, read_numbers, check_numbers, bind_numbers, judge_accepts}
+use Rattle.words.specs.declared.Fault.TheVariants.{AlreadyBound, NotInJob, NotLaidOut, NotSound, OtherOutputs, OtherWidth, OutOfSequence, ReadsUndriven}
 
 -- an answer that is accepted, or refused with a number of the list
 abbrev pub Listed : {A : Type 0} (accepts : A → Bool) (paper : A → Paper) (numbers : List ℕ) (r : A) → Type 0
@@ -70,28 +71,30 @@ of_reading others (suc (suc (suc (suc (suc zero))))) h = refl
 of_reading others (suc (suc (suc (suc (suc (suc zero)))))) h = refl
 of_reading others (suc (suc (suc (suc (suc (suc (suc n))))))) h = absurd (omega (arith, h))
 
--- the refusals of a recipe word
-pub recipe_number : (P : ℕ → Type 0) (w : ℕ) → P 3 → P 5 → P 6 → P 0 → P (recipe_fault w)
+-- the refusals of a recipe word: 3, 5, 6 or none
+pub recipe_number : (P : Option Fault → Type 0) (w : ℕ) → P (Some NotLaidOut) → P (Some ReadsUndriven) → P (Some OtherOutputs) → P None
+    → P (recipe_fault w)
 unfolding recipe_fault
-recipe_number P w p3 p5 p6 p0 =
-    either P (not (laid_out w)) (λ _. p3) (λ _. either P (reads_undriven w) (λ _. p5) (λ _. either P (shows_other w) (λ _. p6) (λ _. p0)))
+recipe_number P w p3 p5 p6 none =
+    either P (not (laid_out w)) (λ _. p3)
+    (λ _. either P (reads_undriven w) (λ _. p5) (λ _. either P (shows_other w) (λ _. p6) (λ _. none)))
 
 -- ---- judge
 
 abbrev pub Judges : Sentence → Type 0
 Judges x = OneNumber (Result Verdict Refusal) judge_accepts judgement_paper judge_numbers (Passes x)
 
-pub sentence_refused : (number place : ℕ) → among judge_numbers number ≡ true → Judges (Refuses (refusal number place))
-sentence_refused number place h = record { listed = listed; never_two = never_two }
+pub sentence_refused : (fault : Fault) (place : ℕ) → among judge_numbers (number_of fault) ≡ true → Judges (Refuses (refusal fault place))
+sentence_refused fault place h = record { listed = listed; never_two = never_two }
   where
-    listed : (j : Result Verdict Refusal) → Passes (Refuses (refusal number place)) j → Listed judge_accepts judgement_paper judge_numbers j
-    listed (Err r) e = subst (λ (x : Refusal). among judge_numbers x.number ≡ true) (sym e) h
+    listed : (j : Result Verdict Refusal) → Passes (Refuses (refusal fault place)) j → Listed judge_accepts judgement_paper judge_numbers j
+    listed (Err r) e = subst (λ (x : Refusal). among judge_numbers (number_of x.fault) ≡ true) (sym e) h
     listed (Ok v) e = absurd e
 
-    never_two : (j k : Result Verdict Refusal) → Passes (Refuses (refusal number place)) j → Passes (Refuses (refusal number place)) k
+    never_two : (j k : Result Verdict Refusal) → Passes (Refuses (refusal fault place)) j → Passes (Refuses (refusal fault place)) k
         → ((judgement_paper j).number ≡ (judgement_paper k).number) × ((judgement_paper j).place ≡ (judgement_paper k).place)
     never_two (Err r) (Err s) e f = (
-      ap (λ (x : Refusal). x.number) (e ∙ sym f),
+      ap (λ (x : Refusal). number_of x.fault) (e ∙ sym f),
       ap (λ (x : Refusal). x.place) (e ∙ sym f),
     )
     never_two (Err r) (Ok v) e f = absurd f
@@ -117,7 +120,7 @@ sentence_decided c n = record { listed = listed; never_two = never_two }
 -- ---- price and check
 
 -- 7, 8 or neither
-module _ (P : Result ⊤ Refusal → Type 0) (seven : P (Err (refusal 7 0))) (eight : (place : ℕ) → P (Err (refusal 8 place))) (neither : P (Ok tt))
+module _ (P : Result ⊤ Refusal → Type 0) (seven : P (Err (refusal OtherWidth 0))) (eight : (place : ℕ) → P (Err (refusal NotInJob place))) (neither : P (Ok tt))
     (t : Terms) where
   by_fit : (place : ℕ) (ws : List ℕ) → P (all_in_job t.sources t.targets place ws)
   unfolding all_in_job
@@ -187,9 +190,9 @@ check_number jw mw = go (job_of jw) refl (mapping_of mw) refl
   where
     go : (j : Result Job Refusal) → job_of jw ≡ j → (m : Result Mapping Refusal) → mapping_of mw ≡ m → Checking (ruled_of jw mw (with_job j m))
     go (Err r) e m f =
-        check_gives (Err (checked.JobRefused r)) (of_reading (7 ∷ 8 ∷ 9 ∷ 10 ∷ 11 ∷ []) r.number (job_number r jw e))
+        check_gives (Err (checked.JobRefused r)) (of_reading (7 ∷ 8 ∷ 9 ∷ 10 ∷ 11 ∷ []) (number_of r.fault) (job_number r jw e))
     go (Ok j) e (Err r) f =
-        check_gives (Err (checked.MappingRefused r)) (of_reading (7 ∷ 8 ∷ 9 ∷ 10 ∷ 11 ∷ []) r.number (mapping_number r mw f))
+        check_gives (Err (checked.MappingRefused r)) (of_reading (7 ∷ 8 ∷ 9 ∷ 10 ∷ 11 ∷ []) (number_of r.fault) (mapping_number r mw f))
     go (Ok j) e (Ok m) f = judgement_number (terms_of jw j) m (bindings_of mw m)
 
 -- ---- the calls of a bench
@@ -208,22 +211,22 @@ module _ (b : Bench) (w : ℕ) where
   Binding x = OneNumber (After ⊤) accepts paper bind_numbers (BindRuled b x)
 
   -- a refusal before 10
-  pub check_refused : (r : Refusal) → bind_check b w ≡ Err r → among bind_numbers r.number ≡ true
-  unfolding bind_check rule_fault
+  pub check_refused : (r : Refusal) → bind_check b w ≡ Err r → among bind_numbers (number_of r.fault) ≡ true
+  unfolding bind_check rule_fault table_check
   check_refused r =
-      let P : Result ⊤ Refusal → Type 0 = λ x. x ≡ Err r → among bind_numbers r.number ≡ true in
-      let Q : ℕ → Type 0 = λ x. eqb x no_refusal ≡ false → among bind_numbers x ≡ true in
-      either P (not (sound_bench b)) (λ _ e. numbered 20 0 refl e)
-      (λ _. either P (not (eqb (rule_fault w) no_refusal))
-      (λ some e. numbered (rule_fault w) 0
-      (either Q (not (eqb (kind_of w) RULE)) (λ _ _. refl) (λ _. recipe_number Q w (λ _. refl) (λ _. refl) (λ _. refl) (λ z. sym z))
-      (not-true (eqb (rule_fault w) no_refusal) some)) e)
-      (λ _. either P (not (in_tables b w)) (λ _ e. numbered 8 0 refl e)
-      (λ _. either P (has_binding b (source_of w)) (λ _ e. numbered 21 (source_of w) refl e)
-      (λ _ e. absurd (let z : ◌≡◌ {A = ℕ} 0 1 = cc in omega arith)))))
+      let P : Result ⊤ Refusal → Type 0 = λ x. x ≡ Err r → among bind_numbers (number_of r.fault) ≡ true in
+      let Q : Option Fault → Type 0 = λ x. P (unless_fault x 0 (table_check b w)) in
+      either P (not (sound_bench b)) (λ _. numbered NotSound 0 refl)
+      (λ _. either Q (not (eqb (kind_of w) RULE)) (λ _. numbered OutOfSequence 0 refl)
+      (λ _. recipe_number Q w (numbered NotLaidOut 0 refl) (numbered ReadsUndriven 0 refl) (numbered OtherOutputs 0 refl)
+      (either P (not (in_tables b w)) (λ _. numbered NotInJob 0 refl)
+      (λ _. either P (has_binding b (source_of w)) (λ _. numbered AlreadyBound (source_of w) refl)
+      (λ _ e. absurd (let z : ◌≡◌ {A = ℕ} 0 1 = cc in omega arith))))))
     where
-      numbered : (n i : ℕ) → among bind_numbers n ≡ true → ◌≡◌ {A = Result ⊤ Refusal} (Err (refusal n i)) (Err r) → among bind_numbers r.number ≡ true
-      numbered n i h e = let q : refusal n i ≡ r = cc in subst (λ (x : Refusal). among bind_numbers x.number ≡ true) q h
+      numbered : (fault : Fault) (i : ℕ) → among bind_numbers (number_of fault) ≡ true → ◌≡◌ {A = Result ⊤ Refusal} (Err (refusal fault i)) (Err r)
+          → among bind_numbers (number_of r.fault) ≡ true
+      numbered fault i h e =
+          let q : refusal fault i ≡ r = cc in subst (λ (x : Refusal). among bind_numbers (number_of x.fault) ≡ true) q h
 
   pub bind_names : (c : Claim) (n : ℕ) → Binding (Names c n)
   bind_names c n =

@@ -3,7 +3,7 @@ use mathlib.Core.Path.{◌≡◌, refl, ap, subst}
 use mathlib.Core.Bool.{true, false≢true}
 use mathlib.Core.List.{List, []}
 use Prim.Native.Nat.{ℕ}
-use Rattle.words.specs.Paper.{Paper, no_refusal, accepted}
+use Rattle.words.specs.Paper.{Paper, number_of, no_refusal, accepted}
 use Rattle.checker.specs.Check.{paper_of, Checks}
 use Rattle.std.specs.Prelude.{is_ok, Result, Ok, Err, ⊤}
 use Rattle.checker.specs.declared.CheckError.{CheckError}
@@ -19,7 +19,7 @@ accepted_paper jw mw r answer e = by_answer r ((check_number jw mw).listed r ans
   where
     by_answer : (r : Result ⊤ CheckError) → Listed is_ok paper_of check_numbers r → (paper_of r).number ≡ no_refusal → r ≡ Ok tt
     by_answer (Ok tt) h n = refl
-    by_answer (Err (JobRefused x)) h n = unlisted x.number h n
-    by_answer (Err (MappingRefused x)) h n = unlisted x.number h n
-    by_answer (Err (Refused x)) h n = unlisted x.number h n
+    by_answer (Err (JobRefused x)) h n = unlisted (number_of x.fault) h n
+    by_answer (Err (MappingRefused x)) h n = unlisted (number_of x.fault) h n
+    by_answer (Err (Refused x)) h n = unlisted (number_of x.fault) h n
     by_answer (Err (Wrong v)) h n = unlisted 10 h n

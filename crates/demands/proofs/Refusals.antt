@@ -1,24 +1,24 @@
 -- Demand 1, as theorems of the contracts: "A job, mapping, recipe or bench handed in is accepted, or refused with one number of document
 -- 01 and its place." Each theorem is stated of any input, and of every answer that meets the call's contract for it.
 use mathlib.Core.Path.{◌≡◌, refl, sym, ap, ◌∙◌}
-use mathlib.Core.Bool.{true, false, not, true≢false}
+use mathlib.Core.Bool.{false, not, true≢false}
 use mathlib.Core.List.{List, [], ◌∷◌}
 use Prim.Native.Nat.{ℕ}
 use lib.Dec.{eqb, ltb}
 use Rattle.words.specs.Field.{kind_of}
 use Rattle.words.specs.Kinds.{is_recipe}
-use Rattle.words.specs.Paper.{no_refusal, accepted}
+use Rattle.words.specs.Paper.{number_of, refusal, accepted}
 use Rattle.words.proofs.Choices.{either}
 use Rattle.alu.specs.Function.{function_of, ports}
-use Rattle.layout.specs.Layout.{recipe_fault}
-use Rattle.verdict.specs.Verdicts.{judgement_paper, judge_of, Judged}
-use Rattle.std.specs.Prelude.{is_ok, Result, Ok, Err, ⊤, Option, Some, None}
+use Rattle.verdict.specs.Verdicts.{Refuses, Decides, unless, judgement_paper, judge_of, Judged}
+use Rattle.std.specs.Prelude.{is_ok, if◌then◌else◌, Result, Ok, Err, ⊤, Option, Some, None}
 use Rattle.bits.specs.declared.Ports.{Ports}
 use Rattle.checker.specs.declared.CheckError.{CheckError}
 use Rattle.fitting.specs.declared.PairError.{PairError}
 use Rattle.reader.specs.declared.Job.{Job}
 use Rattle.reader.specs.declared.Mapping.{Mapping}
 use Rattle.verdict.specs.declared.Verdict.{Verdict}
+use Rattle.words.specs.declared.Fault.TheVariants.{NotLaidOut, OtherOutputs, OutOfSequence, ReadsUndriven}
 use Rattle.words.specs.declared.Refusal.{Refusal}
 use Rattle.table.specs.Parts.{bindings_of, terms_of}
 use Rattle.glue.specs.Glue.{glue}
@@ -30,7 +30,6 @@ use Rattle.bench.specs.declared.Bench.{Bench}
 use Rattle.bench.specs.declared.CallError.{CallError}
 use Rattle.bench.specs.declared.After.{After}
 use lib.ListN.{length}
-use borrow.Author.Tests.{not-true}
 use Rattle.alu.specs.Evaluate as alu
 use Rattle.alu.specs.Range.{is_width}
 use Rattle.binding.specs.Right.{is_right, claim_of}
@@ -47,7 +46,7 @@ use Rattle.writer.specs.Write as writer
 use Rattle.mapper.specs.Mapping.{choice_of, answer_to, answer_for, answer_of, lent_after_map}
 use Rattle.mapper.specs.Mapping as mapper
 use Rattle.bench.specs.Shape.{Shaped}
-use Rattle.demands.specs.Answers.{among, OneNumber, judge_numbers, read_numbers, check_numbers, bind_numbers, release_numbers, judge_accepts, write_numbers, evaluate_numbers, price_numbers, map_numbers, bench_price_numbers, finish_numbers}
+use Rattle.demands.specs.Answers.{OneNumber, judge_numbers, read_numbers, check_numbers, bind_numbers, release_numbers, judge_accepts, write_numbers, evaluate_numbers, price_numbers, map_numbers, bench_price_numbers, finish_numbers}
 use Rattle.demands.proofs.OpenedSound.{zeros-not_sound}
 use Rattle.demands.proofs.Outcomes.{accepted_apart, Outcome, Unread, Unmapped, Short, Writes, outcome}
 use Rattle.demands.proofs.Allowed.{Outcome as Bind, Bound, Unchanged, outcome as bind}
@@ -71,22 +70,18 @@ evaluate_answers f n left right carry =
 pub judge_answers : (w n : ℕ) → OneNumber (Result Verdict Refusal) judge_accepts judgement_paper judge_numbers (Judged w n)
 unfolding judge_of
 judge_answers w n =
-    either Judges (not (is_recipe (kind_of w))) (λ _. sentence_refused 2 0 refl)
-    (λ _. either Judges (not (eqb (recipe_fault w) no_refusal))
-    (λ some. sentence_refused (recipe_fault w) 0 (faulty (not-true (eqb (recipe_fault w) no_refusal) some)))
-    (λ _. either Judges (not (is_width n)) (λ _. sentence_refused 3 1 refl) (λ _. sentence_decided (claim_of w) n)))
-  where
-    faulty : eqb (recipe_fault w) no_refusal ≡ false → among judge_numbers (recipe_fault w) ≡ true
-    faulty =
-        recipe_number (λ x. eqb x no_refusal ≡ false → among judge_numbers x ≡ true) w (λ _. refl) (λ _. refl) (λ _. refl)
-        (λ e. sym e)
+    let width = if not (is_width n) then Refuses (refusal NotLaidOut 1) else Decides (claim_of w) n in
+    either Judges (not (is_recipe (kind_of w))) (λ _. sentence_refused OutOfSequence 0 refl)
+    (λ _. recipe_number (λ x. Judges (unless x width)) w (sentence_refused NotLaidOut 0 refl) (sentence_refused ReadsUndriven 0 refl)
+    (sentence_refused OtherOutputs 0 refl)
+    (either Judges (not (is_width n)) (λ _. sentence_refused NotLaidOut 1 refl) (λ _. sentence_decided (claim_of w) n)))
 
 pub read_job_answers : (ws : List ℕ) → OneNumber (Result Job Refusal) is_ok job-reader.paper_of read_numbers (λ r. r ≡ job_of ws)
 read_job_answers ws = one_answer is_ok job-reader.paper_of read_numbers (job_of ws) (go (job_of ws) refl)
   where
     go : (r : Result Job Refusal) → job_of ws ≡ r → Listed is_ok job-reader.paper_of read_numbers r
     go (Ok j) e = refl
-    go (Err r) e = of_reading [] r.number (job_number r ws e)
+    go (Err r) e = of_reading [] (number_of r.fault) (job_number r ws e)
 
 pub read_mapping_answers : (ws : List ℕ)
     → OneNumber (Result Mapping Refusal) is_ok mapping-reader.paper_of read_numbers (λ r. r ≡ mapping_of ws)
@@ -94,7 +89,7 @@ read_mapping_answers ws = one_answer is_ok mapping-reader.paper_of read_numbers 
   where
     go : (r : Result Mapping Refusal) → mapping_of ws ≡ r → Listed is_ok mapping-reader.paper_of read_numbers r
     go (Ok m) e = refl
-    go (Err r) e = of_reading [] r.number (mapping_number r ws e)
+    go (Err r) e = of_reading [] (number_of r.fault) (mapping_number r ws e)
 
 -- ---- price and check, of a job and a mapping
 
@@ -104,8 +99,8 @@ price_answers jw mw = one_answer is_ok pricer.paper_of price_numbers (pricing_of
   where
     go : (j : Result Job Refusal) → job_of jw ≡ j → (m : Result Mapping Refusal) → mapping_of mw ≡ m
         → Listed is_ok pricer.paper_of price_numbers (priced_pair jw mw (with_job j m))
-    go (Err r) e m f = of_reading (7 ∷ 8 ∷ []) r.number (job_number r jw e)
-    go (Ok j) e (Err r) f = of_reading (7 ∷ 8 ∷ []) r.number (mapping_number r mw f)
+    go (Err r) e m f = of_reading (7 ∷ 8 ∷ []) (number_of r.fault) (job_number r jw e)
+    go (Ok j) e (Err r) f = of_reading (7 ∷ 8 ∷ []) (number_of r.fault) (mapping_number r mw f)
     go (Ok j) e (Ok m) f =
         let t = terms_of jw j in
         let ws = bindings_of mw m in
@@ -137,7 +132,7 @@ map_answers ws lent = one_answer is_ok mapper.paper_of map_numbers (answer_of ws
         (ltb (length lent) (words_needed (length bound))) (λ _. refl) (λ _. refl)
 
     go : (r : Result Job Refusal) → job_of ws ≡ r → Listed is_ok mapper.paper_of map_numbers (answer_for ws r lent)
-    go (Err r) e = of_reading (12 ∷ 23 ∷ []) r.number (job_number r ws e)
+    go (Err r) e = of_reading (12 ∷ 23 ∷ []) (number_of r.fault) (job_number r ws e)
     go (Ok j) e = by_choice (choice_of ws j)
 
 -- ---- open, bind, release, price, finish
@@ -148,7 +143,7 @@ open_answers ws = one_answer accepts paper read_numbers (open_of ws) (go (job_of
   where
     go : (r : Result Job Refusal) → job_of ws ≡ r → Listed accepts paper read_numbers (open_for ws r)
     go (Ok j) e = refl
-    go (Err r) e = of_reading [] r.number (job_number r ws e)
+    go (Err r) e = of_reading [] (number_of r.fault) (job_number r ws e)
 
 pub bind_answers : (b : Bench) (w : ℕ) → OneNumber (After ⊤) accepts paper bind_numbers (Binds b w)
 unfolding bind_of
@@ -227,7 +222,7 @@ refused-map_writes_nothing ws lent e = by_outcome (outcome ws lent)
   where
     by_answer : (a : Result ℕ Refusal) → is_ok a ≡ false → (n : ℕ) → mapper.paper_of a ≡ accepted (n ∷ []) → ⊥
     by_answer (Ok k) e n p = true≢false e
-    by_answer (Err r) e n p = accepted_apart n r.number r.place (sym p)
+    by_answer (Err r) e n p = accepted_apart n (number_of r.fault) r.place (sym p)
 
     by_outcome : Outcome ws lent → lent_after_map ws lent ≡ lent
     by_outcome (Unread r _ _ kept) = kept

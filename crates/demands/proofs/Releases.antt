@@ -8,7 +8,7 @@ use Prim.Native.Nat.{ℕ, ◌<◌}
 use native.Mathlib.Omega.{arith}
 use lib.ListN.{length, get_or, set, length-set}
 use lib.Seq.{get_or-set_same, get_or-set_other, set-set, set-get_or}
-use Rattle.std.specs.Prelude.{Ok, ⊤}
+use Rattle.std.specs.Prelude.{None, Ok, ⊤}
 use Rattle.words.specs.Paper.{accepted, refused, source_place}
 use Rattle.recipe.specs.Fields.{source_of}
 use Rattle.binding.specs.Right.{is_right}
@@ -94,7 +94,7 @@ module _ (b : Bench) (h : Shaped b) (s : sound_bench b ≡ true) where
         (something_there b f u)
 
     -- a rule of the function that could be bound is bound
-    module _ (w : ℕ) (rule : rule_fault w ≡ 0) (there : in_job (sources_on b.tables) (targets_on b.tables) w ≡ true)
+    module _ (w : ℕ) (rule : rule_fault w ≡ None) (there : in_job (sources_on b.tables) (targets_on b.tables) w ≡ true)
         (right : is_right (claim_in (sources_on b.tables) (targets_on b.tables) w) b.tables.width ≡ true)
         (of : source_of w ≡ f) where
       allowed : Allowed (released_on b f) w

@@ -7,7 +7,7 @@ use native.Mathlib.Omega.{arith}
 use lib.Dec.{eqb}
 use lib.ListN.{set}
 use Rattle.std.specs.Prelude.{Ok, ⊤}
-use Rattle.words.specs.Paper.{Paper, refusal, accepted}
+use Rattle.words.specs.Paper.{Paper, number_of, refusal, accepted}
 use Rattle.soundness.specs.Sound.{nothing, empty, sources_on, targets_on, entry_sound, bound_sound}
 use Rattle.soundness.proofs.Soundness.{sound_holds, sound_when}
 use Rattle.bench.specs.Calls.{sound_bench, holding, has_binding, gives, refuses, release_of, paper_of}
@@ -16,6 +16,8 @@ use Rattle.bench.specs.declared.After.{After}
 use Rattle.bench.proofs.Binds.{place_for, at_place}
 use Rattle.entries.proofs.Searching.{bound_place}
 use Rattle.demands.proofs.Keeping.{both}
+use Rattle.words.specs.declared.Fault.{Fault}
+use Rattle.words.specs.declared.Fault.TheVariants.{NotBound, NotSound}
 
 -- the bench after a function is released
 abbrev pub released_on : Bench → ℕ → Bench
@@ -24,11 +26,11 @@ released_on b f = holding b (set b.bound (place_for b f) nothing)
 -- ---- the answer
 
 module _ (b : Bench) (f : ℕ) where
-  unsound_refused : sound_bench b ≡ false → release_of b f ≡ refuses b (refusal 20 0)
+  unsound_refused : sound_bench b ≡ false → release_of b f ≡ refuses b (refusal NotSound 0)
   unfolding release_of
   unsound_refused s = rw s refl
 
-  pub unbound_refused : sound_bench b ≡ true → has_binding b f ≡ false → release_of b f ≡ refuses b (refusal 24 f)
+  pub unbound_refused : sound_bench b ≡ true → has_binding b f ≡ false → release_of b f ≡ refuses b (refusal NotBound f)
   unfolding release_of
   unbound_refused s u = rw s (rw u refl)
 
@@ -46,15 +48,15 @@ pub data Release (b : Bench) (f : ℕ) : Type 0 where
 pub release : (b : Bench) (f : ℕ) → Release b f
 release b f = by_tests (sound_bench b) refl (has_binding b f) refl
   where
-    kept : (number place : ℕ) → (number ≡ 0 → ⊥) → release_of b f ≡ refuses b (refusal number place) → Release b f
-    kept number place some e =
+    kept : (fault : Fault) (place : ℕ) → (number_of fault ≡ 0 → ⊥) → release_of b f ≡ refuses b (refusal fault place) → Release b f
+    kept fault place some e =
         Kept
         (λ a. some (sym (ap (λ (x : After ⊤). (paper_of x.answer).number) e) ∙ ap (λ (x : Paper). x.number) a))
         (ap (λ (x : After ⊤). x.bench) e)
 
     by_tests : (s : Bool) → sound_bench b ≡ s → (h : Bool) → has_binding b f ≡ h → Release b f
-    by_tests false s h u = kept 20 0 (λ z. omega arith) (unsound_refused b f s)
-    by_tests true s false u = kept 24 f (λ z. omega arith) (unbound_refused b f s u)
+    by_tests false s h u = kept NotSound 0 (λ z. omega arith) (unsound_refused b f s)
+    by_tests true s false u = kept NotBound f (λ z. omega arith) (unbound_refused b f s u)
     by_tests true s true u = Released s u (releases b f s u)
 
 -- ---- sound afterwards

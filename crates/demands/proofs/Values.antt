@@ -10,7 +10,7 @@ use lib.Dec.{eqb, ltb}
 use lib.ListN.{length, take, drop}
 use borrow.Author.Tests.{lt-leb, le-ltb}
 use Rattle.std.specs.Prelude.{if◌then◌else◌, Option, None, Some, Result, Ok, Err, ⊤}
-use Rattle.words.specs.Paper.{Paper, refusal, accepted, refused, source_place}
+use Rattle.words.specs.Paper.{Paper, number_of, refusal, accepted, refused, source_place}
 use Rattle.bits.specs.Bits.{num}
 use Rattle.bits.specs.declared.Ports.{Ports}
 use Rattle.alu.specs.Function.{function_of, ports}
@@ -62,6 +62,7 @@ use Rattle.demands.proofs.Benches.{all_bindable}
 use Rattle.demands.proofs.Finishing.{same_words}
 use Rattle.demands.proofs.OwnJob.{of_own_job}
 use Rattle.demands.proofs.Entries.{adds, lowest_unbound}
+use Rattle.words.specs.declared.Fault.TheVariants.{NotSound, TooFewWords}
 
 -- ---- values and counts
 
@@ -103,7 +104,7 @@ module _ (ws lent : List ℕ) where
     where
       by_outcome : Outcome ws lent → (job : Job) × (WellFormedJob ws job × LowestUnserved ws job place)
       by_outcome (Unread r e p _) =
-          let z : 12 ≡ r.number = ap (λ (x : Paper). x.number) (sym a ∙ p) in
+          let z : 12 ≡ number_of r.fault = ap (λ (x : Paper). x.number) (sym a ∙ p) in
           absurd (omega (arith, job_number r ws e))
       by_outcome (Unmapped job i e c p _) =
           (job, (e, subst (LowestUnserved ws job) (ap (λ (x : Paper). x.place) (sym p ∙ a)) (unmappable_lowest ws job e i c)))
@@ -178,14 +179,14 @@ module _ (b : Bench) (h : Shaped b) where
       other n i apart e = absurd (apart (ap (λ (x : Paper). x.number) e))
 
       written_or_short : (c : Bool)
-          → bench.number_paper_of (finish_written (if c then Err (refusal 23 (words_needed b.tables.nsources)) else Ok (words_needed b.tables.nsources)))
+          → bench.number_paper_of (finish_written (if c then Err (refusal TooFewWords (words_needed b.tables.nsources)) else Ok (words_needed b.tables.nsources)))
           ≡ refused 22 place
           → LowestUnbound b place
       written_or_short true e = other 23 (words_needed b.tables.nsources) (λ z. omega arith) e
       written_or_short false e = accepted_apart (words_needed b.tables.nsources) 22 place e
 
       by_soundness : (p : Bool) → sound_bench b ≡ p → (q : Option ℕ) → unbound_on b ≡ q
-          → bench.number_paper_of (if not p then Err (Refused (refusal 20 0)) else finish_for b lent q) ≡ refused 22 place
+          → bench.number_paper_of (if not p then Err (Refused (refusal NotSound 0)) else finish_for b lent q) ≡ refused 22 place
           → LowestUnbound b place
       by_soundness false s q u e = other 20 0 (λ z. omega arith) e
       by_soundness true s None u e = written_or_short (ltb (length lent) (words_needed b.tables.nsources)) e

@@ -6,6 +6,7 @@ use Prim.Native.Nat.{ℕ, ◌+◌, ◌^◌, ◌<◌}
 use native.Mathlib.Omega.{arith}
 use lib.ListN.{length, get_or}
 use lib.Seq.{take-append_seam}
+use Rattle.std.specs.Prelude.{None}
 use Rattle.words.specs.Field.{word_of}
 use Rattle.words.specs.Kinds.{GLUE, BINDING}
 use Rattle.recipe.specs.Fields.{source_of}
@@ -34,7 +35,7 @@ use Rattle.demands.proofs.Content.{binding_kind, source_same, fault_same}
 pub record Bindable (ws : List ℕ) (job : Job) (bound : List ℕ) : Type 0 where
   pub one_each : length bound ≡ job.sources
   pub its_source : (k : ℕ) → k < length bound → source_of (get_or bound k 0) ≡ source_at ws k
-  pub faultless : (k : ℕ) → k < length bound → recipe_fault (get_or bound k 0) ≡ 0
+  pub faultless : (k : ℕ) → k < length bound → recipe_fault (get_or bound k 0) ≡ None
   pub target_there : (k : ℕ) → k < length bound → has_target (targets_of ws job) (get_or bound k 0) ≡ true
   pub is_right_lem : (k : ℕ) → k < length bound → is_right (claim_in (sources_of ws job) (targets_of ws job) (get_or bound k 0)) job.width ≡ true
 

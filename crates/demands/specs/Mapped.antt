@@ -1,10 +1,10 @@
 -- The words in which the checker's promises are said: document 01, "What a binding shows". "A job or mapping is well formed if none
 -- of 1 to 6 below holds of its words. A mapping fits its job if neither 7 nor 8 holds, is complete if 9 does not, and rightly priced
 -- if 11 does not."
-use Rattle.std.specs.Prelude.{ℕ, ◌+◌, ◌<◌, ◌≤◌, ◌≡◌, true, List, [], ◌∷◌, get_or, Result, Ok, ⊤}
+use Rattle.std.specs.Prelude.{ℕ, ◌+◌, ◌<◌, ◌≤◌, ◌≡◌, true, List, [], ◌∷◌, get_or, None, Result, Ok, ⊤}
 use Rattle.words.specs.Field.{kind_of, source_function}
 use Rattle.words.specs.Kinds.{is_recipe}
-use Rattle.words.specs.Paper.{no_refusal, source_place, refused, refused_with}
+use Rattle.words.specs.Paper.{source_place, refused, refused_with}
 use Rattle.words.specs.declared.Witness.{Witness}
 use Rattle.bits.specs.Bits.{num}
 use Rattle.alu.specs.Range.{is_width}
@@ -28,7 +28,7 @@ use Rattle.checker.specs.Check.{paper_of}
 -- a word and a width that the judge is to accept: a rule or a binding that passes 3, 5 and 6, a width, and the recipe right at it
 pub record RightRecipe (w n : ℕ) : Type 0 where
   pub a_recipe : is_recipe (kind_of w) ≡ true
-  pub faultless : recipe_fault w ≡ no_refusal
+  pub faultless : recipe_fault w ≡ None
   pub a_width : is_width n ≡ true
   pub right : Right (claim_of w) n
 

@@ -29,9 +29,9 @@ pub fn of_price(priced: Result<u32, PairError>) -> Report
     ensures { result ≡ D.report_of (P.paper_of priced) }
 {
     match priced {
-        Ok(count) => report::with_value(report::NONE, count as u64),
-        Err(PairError::JobRefused(refusal)) => report::with_value(refusal, 0),
-        Err(PairError::MappingRefused(refusal)) => report::with_value(refusal, 1),
+        Ok(count) => report::accepted().with_value(count as u64),
+        Err(PairError::JobRefused(refusal)) => Report::from(refusal).with_value(0),
+        Err(PairError::MappingRefused(refusal)) => Report::from(refusal).with_value(1),
         Err(PairError::Refused(refusal)) => Report::from(refusal),
     }
 }
@@ -41,7 +41,7 @@ pub fn of_mapping(answer: Result<usize, Refusal>) -> Report
     ensures { result ≡ D.report_of (M.paper_of answer) }
 {
     match answer {
-        Ok(words) => report::with_value(report::NONE, words as u64),
+        Ok(words) => report::accepted().with_value(words as u64),
         Err(refusal) => Report::from(refusal),
     }
 }
@@ -51,9 +51,9 @@ pub fn of_check(checked: Result<(), CheckError>) -> Report
     ensures { result ≡ D.report_of (C.paper_of checked) }
 {
     match checked {
-        Ok(()) => Report::from(report::NONE),
-        Err(CheckError::JobRefused(refusal)) => report::with_value(refusal, 0),
-        Err(CheckError::MappingRefused(refusal)) => report::with_value(refusal, 1),
+        Ok(()) => report::accepted(),
+        Err(CheckError::JobRefused(refusal)) => Report::from(refusal).with_value(0),
+        Err(CheckError::MappingRefused(refusal)) => Report::from(refusal).with_value(1),
         Err(CheckError::Refused(refusal)) => Report::from(refusal),
         Err(CheckError::Wrong(witness)) => Report::from(witness),
     }
@@ -64,7 +64,7 @@ pub fn of_judgement(judgement: Result<Verdict, Refusal>) -> Report
     ensures { result ≡ D.report_of (J.judgement_paper judgement) }
 {
     match judgement {
-        Ok(Verdict::Right) => Report::from(report::NONE),
+        Ok(Verdict::Right) => report::accepted(),
         Ok(Verdict::Wrong(witness)) => Report::from(witness),
         Err(refusal) => Report::from(refusal),
     }

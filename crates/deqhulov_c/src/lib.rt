@@ -1,4 +1,5 @@
 // The calls of `deqhulov` as a program in C finds them: words and lent words pass as a pointer and a length.
+// Kept: calls alike to those of `deqhulov`. Only a static library exports to C, and no crate can stand on one.
 #![tactic(auto)]
 
 ghost use Rattle.std.specs.Prelude.{◌≡◌};

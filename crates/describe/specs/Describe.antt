@@ -1,5 +1,8 @@
 -- The line of a word, as show_words prints it: its eight digits, and what it is in document 01's words ("Words").
-use Rattle.std.specs.Prelude.{ℕ, Option, None, Some, is_some, Bool, ◌&&◌, not, List, [], ◌++◌, eqb, leb, ltb, if◌then◌else◌}
+use Rattle.std.specs.Prelude.{ℕ, Option, None, Some, is_some, Bool, ◌&&◌, not, List, [], ◌++◌, eqb, leb, if◌then◌else◌}
+use Rattle.words.specs.Paper.{number_of}
+use Rattle.words.specs.declared.Fault.{Fault}
+use Rattle.words.specs.declared.Fault.TheVariants.{OutOfSequence, NotLaidOut, ReadsUndriven, OtherOutputs}
 use Rattle.words.specs.Field.{field, kind_of, content_of, source_function, target_function}
 use Rattle.words.specs.Kinds.{HEADER, PRICES, SOURCE, TARGET, RULE, GLUE, is_recipe}
 use Rattle.recipe.specs.Fields.{source_of, target_of, from_scratch, vector_of, fields_of}
@@ -76,21 +79,21 @@ unfoldable pub is_kind : ℕ → Bool
 is_kind kind = leb HEADER kind && leb kind GLUE
 
 -- a kind that no word has: 2; a word against the layout: 3
-unfoldable pub layout_fault : ℕ → Option ℕ
-layout_fault w = if not (is_kind (kind_of w)) then Some 2 else if not (fits AsJob w) then Some 3 else None
+unfoldable pub layout_fault : ℕ → Option Fault
+layout_fault w = if not (is_kind (kind_of w)) then Some OutOfSequence else if not (fits AsJob w) then Some NotLaidOut else None
 
 -- of a recipe that the layout allows: 5 and 6
-unfoldable pub output_fault : ℕ → Option ℕ
+unfoldable pub output_fault : ℕ → Option Fault
 output_fault w =
     if not (is_recipe (kind_of w)) then None
-    else if reads_undriven w then Some 5
-    else if shows_other w then Some 6
+    else if reads_undriven w then Some ReadsUndriven
+    else if shows_other w then Some OtherOutputs
     else None
 
 -- a refusal behind what stands before it, or nothing
-unfoldable pub fault_text : List ℕ → Option ℕ → List ℕ
+unfoldable pub fault_text : List ℕ → Option Fault → List ℕ
 fault_text before None = []
-fault_text before (Some number) = labelled (before ++ bytes "REFUSED ") number
+fault_text before (Some fault) = labelled (before ++ bytes "REFUSED ") (number_of fault)
 
 -- a word that the layout does not allow has no meaning; one that is refused with 5 or 6 has one
 unfoldable pub meaning_text : ℕ → List ℕ

@@ -1,11 +1,13 @@
 // A word of any kind that the layout allows.
-ghost use Rattle.std.specs.Prelude.{◌+◌, ◌≤◌, ◌++◌, length};
+ghost use Rattle.std.specs.Prelude.{◌≡◌, ◌+◌, ◌≤◌, ◌++◌, length};
+ghost use Rattle.words.specs.Field.{kind_of};
+ghost use Rattle.words.specs.Kinds.{kind_number};
 ghost use Rattle.text.specs.Text as P;
 ghost use Rattle.describe.specs.Describe as D;
 ghost use Rattle.describe.specs.Room as M;
 
 use crate::recipes::put_recipe;
-use words::{GLUE, HEADER, PRICES, RULE, SOURCE, TARGET};
+use words::WordKind;
 
 fn put_header(word: u32, out: &mut [u8], at: usize) -> usize
     requires { at + M.most_kind ≤ length out.old }
@@ -40,30 +42,25 @@ fn put_function(label: &[u8], function: u32, out: &mut [u8], at: usize) -> usize
 }
 
 // What a word is, by its kind.
-pub fn put_kind(word: u32, out: &mut [u8], at: usize) -> usize
-    requires { at + M.most_kind ≤ length out.old }
+#[tactic(auto, using(crate::proofs::Described::numbered, crate::proofs::Described::function_named), unfolding(crate::specs::Describe::word_text))]
+pub fn put_kind(kind: WordKind, word: u32, out: &mut [u8], at: usize) -> usize
+    requires of_kind { kind_of word ≡ kind_number kind }
+    requires room { at + M.most_kind ≤ length out.old }
     ensures short { result ≤ at + M.most_kind }
     ensures text { P.Puts out.old at (D.word_text word) out.new result }
 {
-    let kind = words::kind_of(word);
-    let content = words::content_of(word);
-    if kind == HEADER {
-        return put_header(word, out, at);
+    match kind {
+        WordKind::Header => put_header(word, out, at),
+        WordKind::Prices => put_prices(word, out, at),
+        WordKind::Source => put_function(b"source ", words::source_function(word), out, at),
+        WordKind::Target => put_function(b"target ", words::target_function(word), out, at),
+        WordKind::Rule => put_recipe(b"rule ", word, out, at),
+        WordKind::Binding => put_recipe(b"binding ", word, out, at),
+        WordKind::Glue => text::put_labelled(
+            b"glue count ",
+            words::content_of(word) as u64,
+            out,
+            at,
+        ),
     }
-    if kind == PRICES {
-        return put_prices(word, out, at);
-    }
-    if kind == SOURCE {
-        return put_function(b"source ", words::source_function(word), out, at);
-    }
-    if kind == TARGET {
-        return put_function(b"target ", words::target_function(word), out, at);
-    }
-    if kind == GLUE {
-        return text::put_labelled(b"glue count ", content as u64, out, at);
-    }
-    if kind == RULE {
-        return put_recipe(b"rule ", word, out, at);
-    }
-    put_recipe(b"binding ", word, out, at)
 }

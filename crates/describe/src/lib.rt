@@ -10,6 +10,9 @@ ghost use Rattle.text.specs.Text as P;
 ghost use Rattle.describe.specs.Describe as D;
 ghost use Rattle.describe.specs.Room as M;
 
+use sequence::File;
+use words::Fault;
+
 // The most bytes of a word's line.
 pub const MOST_WORD_BYTES: usize = 200;
 
@@ -19,11 +22,13 @@ fn put_meaning(word: u32, out: &mut [u8], at: usize) -> usize
     ensures short { result ≤ at + M.most_meaning }
     ensures text { P.Puts out.old at (D.meaning_text word) out.new result }
 {
-    let refusal = fault::layout_fault(word);
-    if refusal.is_some() {
-        return fault::put_fault(b"", refusal, out, at);
+    let Some(kind) = words::kind_of(word) else {
+        return fault::put_fault(b"", Some(Fault::OutOfSequence), out, at);
+    };
+    if !grammar::fits(File::AsJob, word) {
+        return fault::put_fault(b"", Some(Fault::NotLaidOut), out, at);
     }
-    let end = kind::put_kind(word, out, at);
+    let end = kind::put_kind(kind, word, out, at);
     fault::put_fault(b", ", fault::output_fault(word), out, end)
 }
 

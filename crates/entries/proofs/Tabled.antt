@@ -24,6 +24,8 @@ module _ (t : Tables) (s : tables_sound t ≡ true) where
   pub few_targets : t.ntargets ≤ most_targets
   few_targets = (counted t s).few_targets
 
+pub ruleset in_range = (width_sound, few_sources, few_targets)
+
 pub entry_few : (t : Tables) (f i : ℕ) (r : Option ℕ) → r ≡ entry_of (sources_on t) f → r ≡ Some i → TablesShaped t → tables_sound t ≡ true → i < most_sources
 entry_few t f i r er e h s =
     omega (arith, (entry_place (sources_on t) f i (sym er ∙ e)).1, sources_few t h (few_sources t s))

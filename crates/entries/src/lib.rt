@@ -15,25 +15,21 @@ use soundness::{NOTHING, Tables};
 use verdict::Verdict;
 
 // Whether a rule's source is in the job, and its target too, if it has one.
+#[tactic(auto, using(crate::proofs::Tabled::in_range))]
 pub fn in_tables(tables: Tables, word: u32) -> bool
     requires { S.tables_sound tables ≡ true }
     ensures { result ≡ T.in_job (S.sources_on tables) (S.targets_on tables) word }
 {
-    let sources = tables.sources;
-    let targets = tables.targets;
-    let nsources = tables.nsources as usize;
-    let ntargets = tables.ntargets as usize;
-    table::in_job(&sources[..nsources], &targets[..ntargets], word)
+    tables.terms().in_job(word)
 }
 
 // The entry of the source whose function it is.
+#[tactic(auto, using(crate::proofs::Tabled::in_range))]
 pub fn entry_for(tables: Tables, function: u32) -> Option<usize>
     requires { S.tables_sound tables ≡ true }
     ensures { result ≡ E.entry_of (S.sources_on tables) function }
 {
-    let sources = tables.sources;
-    let nsources = tables.nsources as usize;
-    lookup::entry_of(&sources[..nsources], function)
+    lookup::entry_of(tables.terms().sources, function)
 }
 
 // Whether something is bound to a function.
@@ -48,28 +44,19 @@ pub fn is_bound(tables: Tables, bound: [u32; MOST_SOURCES], function: u32) -> bo
 }
 
 // The verdict on a rule under the tables: refusal 10.
+#[tactic(auto, using(crate::proofs::Tabled::in_range))]
 pub fn verdict_on(tables: Tables, word: u32) -> Verdict
     requires { S.tables_sound tables ≡ true }
     ensures { D.Says (C.claim_in (S.sources_on tables) (S.targets_on tables) word) tables.width result }
 {
-    let sources = tables.sources;
-    let targets = tables.targets;
-    let nsources = tables.nsources as usize;
-    let ntargets = tables.ntargets as usize;
-    claims::verdict_on(
-        &sources[..nsources],
-        &targets[..ntargets],
-        word,
-        tables.width,
-    )
+    claims::verdict_on(&tables.terms(), word)
 }
 
 // The function of the first source with nothing bound.
+#[tactic(auto, using(crate::proofs::Tabled::in_range))]
 pub fn unbound_on(tables: Tables, bound: [u32; MOST_SOURCES]) -> Option<u32>
     requires { S.tables_sound tables ≡ true }
     ensures { result ≡ E.first_empty (S.sources_on tables) bound }
 {
-    let sources = tables.sources;
-    let nsources = tables.nsources as usize;
-    lookup::first_empty(&sources[..nsources], &bound)
+    lookup::first_empty(tables.terms().sources, &bound)
 }

@@ -6,7 +6,7 @@ use native.Mathlib.Numerals.{add-one}
 use native.Mathlib.Omega.{arith}
 use native.Mathlib.Decide.{dec_lt}
 use mathlib.Core.Bool.{Bool, true, false, ◌&&◌, ◌||◌, true≢false}
-use mathlib.Core.List.{List, ◌∷◌}
+use mathlib.Core.List.{List}
 use lib.Dec.{eqb}
 use lib.ListN.{get_or, length}
 use lib.Pow.{pow_mono}
@@ -18,7 +18,7 @@ use Rattle.binding.specs.declared.Side.{Side}
 use Rattle.binding.specs.declared.Recipe.{Recipe}
 use Rattle.automaton.specs.Machine.{next, alike, last, low_bit, agrees_from}
 use Rattle.automaton.specs.declared.State.{State}
-use Rattle.equivalence.specs.Sets.{index_of, state_of, move_of, top_of, slot, Table, fails, some_fails, round, failing, kept_at, Kept, TableSizes, Failing}
+use Rattle.equivalence.specs.Sets.{index_of, state_of, move_of, top_of, slot, Table, fails, some_fails, round, failing, kept_at, Kept}
 use Rattle.equivalence.proofs.States.{index_lt, state_index}
 
 -- ---- an entry
@@ -33,22 +33,22 @@ pub bit-round : (table : List ℕ) (set i : ℕ) → i < 64 → bit (round table
 unfolding round
 bit-round table set i h = bit_word 64 (some_fails table set) i h
 
-pub round-start : (table : List ℕ) (set : ℕ) → 0 ≡ word 0 (some_fails table set)
+pub round_start : (table : List ℕ) (set : ℕ) → 0 ≡ word 0 (some_fails table set)
 unfolding word
-round-start table set = refl
+round_start table set = refl
 
 module _ (table : List ℕ) (set w b i : ℕ) (x : Bool)
     (e : w ≡ word i (some_fails table set)) (v : x ≡ some_fails table set i) (u : b ≡ num x * 2 ^ i) where
-  pub round-next : w + b ≡ word (i + 1) (some_fails table set)
+  pub round_next : w + b ≡ word (i + 1) (some_fails table set)
   unfolding word
-  round-next = rw add-one (ap₂ ◌+◌ e (u ∙ ap (λ (z : Bool). num z * 2 ^ i) v))
+  round_next = rw add-one (ap₂ ◌+◌ e (u ∙ ap (λ (z : Bool). num z * 2 ^ i) v))
 
-  pub round-fits : i < 64 → w + b < 2 ^ 64
-  round-fits h = rw round-next (lt_of_lt_of_le (word_lt (i + 1) (some_fails table set)) (pow_mono {i = i + 1} {j = 64} (omega arith)))
+  pub round_fits : i < 64 → w + b < 2 ^ 64
+  round_fits h = rw round_next (lt_of_lt_of_le (word_lt (i + 1) (some_fails table set)) (pow_mono {i = i + 1} {j = 64} (omega arith)))
 
-pub round-done : (table : List ℕ) (set w i : ℕ) → w ≡ word i (some_fails table set) → i ≡ 64 → w ≡ round table set
+pub round_done : (table : List ℕ) (set w i : ℕ) → w ≡ word i (some_fails table set) → i ≡ 64 → w ≡ round table set
 unfolding round
-round-done table set w i e h = e ∙ ap (λ (k : ℕ). word k (some_fails table set)) h
+round_done table set w i e h = e ∙ ap (λ (k : ℕ). word k (some_fails table set)) h
 
 -- ---- the rounds
 
@@ -60,13 +60,6 @@ module _ (moves tops : List ℕ) where
   pub failing-next : (j : ℕ) → failing moves tops (j + 1) ≡ round moves (failing moves tops j)
   unfolding failing
   failing-next j = rw add-one refl
-
-  pub next_set : (j set lower : ℕ) → set ≡ failing moves tops j → lower ≡ round moves set → lower ≡ failing moves tops (j + 1)
-  next_set j set lower e u = u ∙ ap (round moves) e ∙ sym (failing-next j)
-
-  pub first_set : (set : ℕ) (rest : List ℕ) → set ≡ round tops 0 → (m : ℕ) → m < 1 → get_or (set ∷ rest) m 0 ≡ failing moves tops m
-  first_set set rest e zero h = e ∙ sym failing-top
-  first_set set rest e (suc m) h = absurd (omega arith)
 
   -- a set that repeats stays
   stays : (j : ℕ) → round moves (failing moves tops j) ≡ failing moves tops j → (d : ℕ) → failing moves tops (d + j) ≡ failing moves tops j
@@ -96,33 +89,6 @@ module _ (moves tops : List ℕ) where
         most = h;
         at = at_kept k last sets below (λ j g _. stable last j g (ap (round moves) (sym e) ∙ sym u ∙ v ∙ e));
       }
-
-  pub kept_all : (k last : ℕ) (sets : List ℕ) → length sets ≡ 64 → last ≤ k → k ≤ last → ((j : ℕ) → j < last + 1 → get_or sets j 0 ≡ failing moves tops j)
-      → Kept moves tops k last sets
-  kept_all k last sets n h g below =
-      record { size = n; most = h; at = at_kept k last sets below (λ j p q. let u : j ≡ last = omega arith in ap (failing moves tops) u) }
-
-  lowest_kept : (k last : ℕ) (sets : List ℕ) → Kept moves tops k last sets → get_or sets last 0 ≡ failing moves tops k
-  lowest_kept k last sets h =
-      let u : kept_at last k ≡ last = rw (le-ltb k last h.most) refl in
-      ap (λ (z : ℕ). get_or sets z 0) (sym u) ∙ h.at k (omega arith)
-
-  -- a start state in the set of the lowest place, and one outside it
-  module _ (k last : ℕ) (sets : List ℕ) (known : Kept moves tops k last sets) (i : ℕ) (b : Bool) (e : b ≡ bit (get_or sets last 0) i) where
-    pub start_fails : TableSizes moves tops → k < 64 → i < 64 → b ≡ true → Failing moves tops sets last k i
-    start_fails g h l u =
-        record {
-          sizes = g;
-          size = known.size;
-          last_fits = omega (arith, known.most);
-          places = h;
-          state = l;
-          below = λ m p. known.at m (omega arith);
-          member = ap (λ (w : ℕ). bit w i) (sym (lowest_kept k last sets known)) ∙ sym e ∙ u;
-        }
-
-    pub start_passes : b ≡ false → bit (failing moves tops k) i ≡ false
-    start_passes u = ap (λ (w : ℕ). bit w i) (sym (lowest_kept k last sets known)) ∙ sym e ∙ u
 
 -- ---- a state outside the set
 

@@ -3,12 +3,10 @@ use mathlib.Core.Path.{◌≡◌, refl, sym, ap, ap₂, ◌∙◌, subst}
 use Prim.Native.Nat.{ℕ, zero, suc, ◌+◌, ◌-◌, ◌*◌, ◌/◌, ◌%◌, ◌≤◌, ◌<◌}
 use native.Mathlib.Nat.{pow-suc, pos_of_ne-zero}
 use native.Mathlib.Omega.{arith}
-use native.Mathlib.Decide.{dec_lt}
-use mathlib.Core.Bool.{Bool, true, false, ◌&&◌, ◌||◌, true≢false}
+use mathlib.Core.Bool.{Bool, true, false, ◌&&◌, true≢false}
 use mathlib.Core.List.{List}
 use lib.ListN.{get_or}
 use lib.Pow.{pow_pos}
-use borrow.Author.Tests.{lt-ltb, le-ltb}
 use Rattle.std.specs.Prelude.{Some, None, if◌then◌else◌}
 use Rattle.bits.specs.Bits.{num, bit}
 use Rattle.bits.proofs.Sums.{num-lt}
@@ -21,20 +19,6 @@ use Rattle.equivalence.specs.Sets.{index_of, state_of, move_of, top_of, slot, Ta
 use Rattle.equivalence.specs.declared.witness.Step.{Step}
 use Rattle.equivalence.proofs.States.{eqb_num, index_lt, state_index}
 use Rattle.equivalence.proofs.Sets.{by_set, bit-round, failing-top, failing-next}
-
--- ---- a pair of bits that fails is met
-
-module _ (table : List ℕ) (set i : ℕ) where
-  pub first_pair : (b : Bool) → b ≡ fails set (get_or table (4 * i) 0) → b ≡ true → fails set (get_or table (4 * i + 0) 0) ≡ true
-  first_pair b e u = let z : 4 * i + 0 ≡ 4 * i = omega arith in rw z (sym e ∙ u)
-
-  pub next_pair : (k : ℕ) (b : Bool) → b ≡ fails set (get_or table (4 * i + k) 0) → b ≡ true → fails set (get_or table (4 * i + k) 0) ≡ true
-  next_pair k b e u = sym e ∙ u
-
-  pub last_pair : (a b c : Bool) → some_fails table set i ≡ true
-      → a ≡ fails set (get_or table (4 * i) 0) → b ≡ fails set (get_or table (4 * i + 1) 0) → c ≡ fails set (get_or table (4 * i + 2) 0)
-      → a ≡ false → b ≡ false → c ≡ false → fails set (get_or table (4 * i + 3) 0) ≡ true
-  last_pair a b c h p q r u v w = sym (ap₂ ◌||◌ (sym p ∙ u) (ap₂ ◌||◌ (sym q ∙ v) (ap₂ ◌||◌ (sym r ∙ w) refl))) ∙ h
 
 -- ---- a pair of bits, by its number
 
@@ -76,13 +60,6 @@ leads false m h = absurd (omega arith)
 and_second : (a b : Bool) → b ≡ false → a && b ≡ false
 and_second true b e = e
 and_second false b e = refl
-
-pub kept_lt : (kept j at : ℕ) → kept < 64 → at ≡ kept_at kept j → at < 64
-kept_lt kept j at h e =
-    rw e (elim (dec_lt j kept) [
-      | yes l ↦ rw (lt-ltb j kept l) (omega arith)
-      | no l ↦ let g : kept ≤ j = omega arith in rw (le-ltb j kept g) h
-    ])
 
 -- ---- one place of the walk
 
@@ -127,8 +104,8 @@ module _ (s : Side) (t : Recipe) (i k : ℕ) (h : k < 4) (b : i < 64) where
         ∙ ap₂ (agrees_from s t j n) (low_rest p.x (k / 2) l p.left) (low_rest p.y (k % 2) r p.right) ∙ rest)
 
 module _ (moves tops sets : List ℕ) (kept i : ℕ) where
-  pub top-member : (j : ℕ) → Failing moves tops sets kept j i → j ≡ 0 → some_fails tops 0 i ≡ true
-  top-member j g e =
+  pub top_member : (j : ℕ) → Failing moves tops sets kept j i → j ≡ 0 → some_fails tops 0 i ≡ true
+  top_member j g e =
       sym (bit-round tops 0 i g.state) ∙ ap (λ (w : ℕ). bit w i) (sym (failing-top moves tops))
       ∙ ap (λ (z : ℕ). bit (failing moves tops z) i) (sym e) ∙ g.member
 

@@ -43,6 +43,7 @@ fn placed(b: bool, i: usize) -> u64
 }
 
 // The states that fail by some pair of bits.
+#[tactic(auto, using(crate::proofs::Sets::round_start, crate::proofs::Sets::round_next, crate::proofs::Sets::round_fits, crate::proofs::Sets::round_done))]
 fn round(table: &[u8], set: u64) -> u64
     requires { length table.now ≡ 256 }
     ensures { result ≡ S.round table.now set }
@@ -55,6 +56,7 @@ fn round(table: &[u8], set: u64) -> u64
 }
 
 // A set follows from the one before it alone, so one that repeats stays.
+#[tactic(auto, using(crate::proofs::Places::filled), unfolding(crate::specs::Sets::failing))]
 pub fn failing_sets(tables: &Tables, k: usize) -> Rounds
     requires { S.TableSizes tables.now.moves tables.now.tops × (k < 64) }
     ensures { S.Kept tables.now.moves tables.now.tops k result.last result.sets }

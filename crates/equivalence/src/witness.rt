@@ -56,6 +56,7 @@ fn above(k: usize, rest: Operands) -> Operands
 
 // One place of the walk, with j + 1 places to go: the pair of bits there, and the state to which it leads. Where O0 differs at it, or the
 // place is the top one, the walk ends.
+#[tactic(auto, using(crate::proofs::Walks::low_member, crate::proofs::Walks::leads_on))]
 fn step_from(tables: &Tables, rounds: &Rounds, j: usize, i: usize) -> Step
     requires { S.Failing tables.now.moves tables.now.tops rounds.now.sets rounds.now.last j i }
     ensures { S.Stepped tables.now.moves tables.now.tops rounds.now.sets rounds.now.last j i result }

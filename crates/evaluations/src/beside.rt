@@ -24,7 +24,7 @@ fn of_evaluation(answer: Result<Ports, Refusal>) -> Told {
             ovf: ports.ovf,
             o1: ports.o1,
         }),
-        Err(refusal) => Err((refusal.number, refusal.place)),
+        Err(refusal) => Err((u32::from(refusal.fault), refusal.place)),
     }
 }
 

@@ -15,10 +15,11 @@ use Rattle.words.proofs.Lists.{drop-next}
 use Rattle.reader.specs.Starts.{bindings_start}
 use Rattle.reader.specs.declared.Job.{Job}
 use Rattle.reader.specs.declared.Mapping.{Mapping}
-use Rattle.table.specs.Parts.{Terms, terms_with}
+use Rattle.table.specs.Parts.{Terms}
 use Rattle.table.specs.Table.{in_job}
 use Rattle.fitting.specs.Fitting.{all_in_job, fit_of}
 use Rattle.words.specs.declared.Refusal.{Refusal}
+use Rattle.words.specs.declared.Fault.TheVariants.{NotInJob, OtherWidth}
 
 -- ---- the loop over the bindings
 
@@ -28,14 +29,14 @@ module _ (ss ts ws : List ℕ) (i : ℕ) (e : all_in_job ss ts (bindings_start +
   none_strange h = rw (drop_of_length-le ws h) at e
 
   module _ (h : i < length ws) (b : Bool) (eb : b ≡ in_job ss ts (get_or ws i 0)) where
-    opened : (if not b then Err (refusal 8 (bindings_start + i)) else all_in_job ss ts (bindings_start + i + 1) (drop (i + 1) ws))
+    opened : (if not b then Err (refusal NotInJob (bindings_start + i)) else all_in_job ss ts (bindings_start + i + 1) (drop (i + 1) ws))
         ≡ all_in_job ss ts bindings_start ws
     unfolding all_in_job
     opened =
-        ap (λ (x : Bool). if not x then Err (refusal 8 (bindings_start + i)) else all_in_job ss ts (bindings_start + i + 1) (drop (i + 1) ws)) eb
+        ap (λ (x : Bool). if not x then Err (refusal NotInJob (bindings_start + i)) else all_in_job ss ts (bindings_start + i + 1) (drop (i + 1) ws)) eb
         ∙ (rw (drop-next ws i h) at e)
 
-    pub strange : not b ≡ true → Err (refusal 8 (bindings_start + i)) ≡ all_in_job ss ts bindings_start ws
+    pub strange : not b ≡ true → Err (refusal NotInJob (bindings_start + i)) ≡ all_in_job ss ts bindings_start ws
     strange u = rw (not-true b u) at opened
 
     pub in_place : not b ≡ false → all_in_job ss ts (bindings_start + (i + 1)) (drop (i + 1) ws) ≡ all_in_job ss ts bindings_start ws
@@ -45,14 +46,14 @@ module _ (ss ts ws : List ℕ) (i : ℕ) (e : all_in_job ss ts (bindings_start +
 
 -- ---- the width, then the bindings
 
-module _ (j : Job) (ss ts : List ℕ) (m : Mapping) (ws : List ℕ) where
-  pub other_width : (j.width ≡ m.width → ⊥) → Err (refusal 7 0) ≡ fit_of (terms_with j ss ts) m ws
+module _ (t : Terms) (m : Mapping) (ws : List ℕ) where
+  pub other_width : (t.width ≡ m.width → ⊥) → Err (refusal OtherWidth 0) ≡ fit_of t m ws
   unfolding fit_of
-  other_width h = rw (ne_eqb j.width m.width h) refl
+  other_width h = rw (ne_eqb t.width m.width h) refl
 
-  pub same_width : (r : Result ⊤ Refusal) → j.width ≡ m.width → r ≡ all_in_job ss ts bindings_start ws → r ≡ fit_of (terms_with j ss ts) m ws
+  pub same_width : (r : Result ⊤ Refusal) → t.width ≡ m.width → r ≡ all_in_job t.sources t.targets bindings_start ws → r ≡ fit_of t m ws
   unfolding fit_of
-  same_width r h er = rw (eq-eqb j.width m.width h) er
+  same_width r h er = rw (eq-eqb t.width m.width h) er
 
 -- ---- a mapping fits exactly if the widths are the same and each binding is in the job
 

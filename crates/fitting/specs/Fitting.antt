@@ -6,15 +6,16 @@ use Rattle.reader.specs.declared.Mapping.{Mapping}
 use Rattle.table.specs.Parts.{Terms}
 use Rattle.table.specs.Table.{in_job}
 use Rattle.words.specs.declared.Refusal.{Refusal}
+use Rattle.words.specs.declared.Fault.TheVariants.{NotInJob, OtherWidth}
 
 -- "8. Source or target function not in the job; first such word", of bindings that begin at a word
 unfoldable pub all_in_job : List ℕ → List ℕ → ℕ → List ℕ → Result ⊤ Refusal
 all_in_job sources targets place [] = Ok tt
 all_in_job sources targets place (w ∷ ws) =
-    if not (in_job sources targets w) then Err (refusal 8 place) else all_in_job sources targets (place + 1) ws
+    if not (in_job sources targets w) then Err (refusal NotInJob place) else all_in_job sources targets (place + 1) ws
 
 -- "7. Widths of mapping and job differ; place 0."; then 8
 unfoldable pub fit_of : Terms → Mapping → List ℕ → Result ⊤ Refusal
 fit_of t mapping bindings =
-    if not (eqb t.width mapping.width) then Err (refusal 7 0)
+    if not (eqb t.width mapping.width) then Err (refusal OtherWidth 0)
     else all_in_job t.sources t.targets bindings_start bindings

@@ -9,7 +9,8 @@ ghost use Rattle.fitting.specs.Fitting as F;
 ghost use Rattle.fitting.specs.declared.PairError.TheVariants.{Refused};
 
 use reader::{Job, Mapping};
-use words::Refusal;
+use table::Terms;
+use words::{Fault, Refusal};
 
 // A refusal of a job and a mapping handed in together: 1 to 6 of the one or of the other, or a later one, which speaks of both.
 #[derive(Clone, Copy)]
@@ -37,13 +38,13 @@ pub fn read_pair(job: &[u32], mapping: &[u32]) -> Result<(Job, Mapping), PairErr
 }
 
 // Whether the functions of all bindings are in the job.
-fn all_in_job(sources: &[u32], targets: &[u32], bindings: &[u32]) -> Result<(), Refusal>
-    ensures { result ≡ F.all_in_job sources.now targets.now bindings_start bindings.now }
+fn all_in_job(terms: &Terms, bindings: &[u32]) -> Result<(), Refusal>
+    ensures { result ≡ F.all_in_job terms.now.sources.now terms.now.targets.now bindings_start bindings.now }
 {
     for (i, binding) in bindings.iter().enumerate() {
-        if !table::in_job(sources, targets, *binding) {
+        if !terms.in_job(*binding) {
             return Err(Refusal {
-                number: 8,
+                fault: Fault::NotInJob,
                 place: reader::BINDINGS_START + i,
             });
         }
@@ -52,20 +53,14 @@ fn all_in_job(sources: &[u32], targets: &[u32], bindings: &[u32]) -> Result<(), 
 }
 
 // Whether a mapping fits its job, or the first refusal, 7 or 8: the width first, then the bindings.
-pub fn fit_of(
-    job: Job,
-    sources: &[u32],
-    targets: &[u32],
-    mapping: Mapping,
-    bindings: &[u32],
-) -> Result<(), Refusal>
-    ensures { result ≡ F.fit_of (T.terms_with job sources.now targets.now) mapping bindings.now }
+pub fn fit_of(terms: &Terms, mapping: Mapping, bindings: &[u32]) -> Result<(), Refusal>
+    ensures { result ≡ F.fit_of (T.terms_held terms.now) mapping bindings.now }
 {
-    if job.width != mapping.width {
+    if terms.width != mapping.width {
         return Err(Refusal {
-            number: 7,
+            fault: Fault::OtherWidth,
             place: 0,
         });
     }
-    all_in_job(sources, targets, bindings)
+    all_in_job(terms, bindings)
 }

@@ -3,19 +3,19 @@ use mathlib.Core.Path.{◌≡◌, refl, sym, ap, ap₂, ◌∙◌}
 use mathlib.Core.Bool.{Bool}
 use mathlib.Core.List.{[], ◌∷◌}
 use Prim.Native.Nat.{ℕ, zero, suc, ◌+◌, ◌-◌, ◌*◌, ◌/◌, ◌%◌, ◌^◌, ◌≤◌, ◌<◌}
-use native.Mathlib.Nat.{mod-lt, mod-one, zero-lt-suc, mul-le-mul, le_of_suc-le-suc}
+use native.Mathlib.Nat.{mod-one}
 use native.Mathlib.Numerals.{add-one}
 use native.Mathlib.Omega.{arith}
 use mir.Val.{Fits}
 use mir.Syntax.{w32}
 use lib.Count.{ones, ones_step}
-use lib.Dec.{eqb}
 use lib.ListN.{length, get_or}
-use lib.Pow.{pow_pos, shr-shr, mod-mod-pow, field as cut-Shr}
+use lib.Pow.{shr-shr, mod-mod-pow, field as cut-Shr}
 use Rattle.std.specs.Prelude.{if◌then◌else◌}
 use Rattle.words.specs.declared.Prices.{Prices}
-use Rattle.bits.specs.Bits.{num, bit}
+use Rattle.bits.specs.Bits.{bit}
 use Rattle.bits.specs.Asked.{Width}
+use Rattle.bits.proofs.Words.{num-bit}
 use Rattle.usage.proofs.Bits.{one_shifted}
 use Rattle.glue.specs.Glue.{distinct, code_price, codes_count, comparison_codes}
 use Rattle.glue.specs.Asked.{InRange}
@@ -23,15 +23,6 @@ use Rattle.glue.specs.Codes.{codes}
 use Rattle.glue.proofs.Bounds.{distinct-most, codes_count-most}
 
 -- ---- codes counted by their bits
-
-num-bit : (x k : ℕ) → num (bit x k) ≡ x / 2 ^ k % 2
-unfolding bit
-num-bit x k = go (x / 2 ^ k % 2) (mod-lt (x / 2 ^ k) (zero-lt-suc 1))
-  where
-    go : (d : ℕ) → d < 2 → num (eqb d 1) ≡ d
-    go zero h = refl
-    go (suc zero) h = refl
-    go (suc (suc d)) h = absurd (omega arith)
 
 module _ (x from size : ℕ) where
   low_code : x / 2 ^ from % 2 ^ suc size % 2 ≡ x / 2 ^ from % 2
@@ -59,35 +50,12 @@ length-codes from (suc size) = ap suc (length-codes (suc from) size)
 size_shifted : (size : ℕ) → size ≤ 15 → 1 * 2 ^ size % 2 ^ 64 ≡ 2 ^ size
 size_shifted size h = one_shifted size 64 (omega arith)
 
-pub size_positive : (size : ℕ) → size ≤ 15 → 0 < 1 * 2 ^ size % 2 ^ 64
-size_positive size h = rw (size_shifted size h) (pow_pos size)
-
 module _ (x from size : ℕ) (h : size ≤ 15) where
   pub counted : ones (x / 2 ^ from % (1 * 2 ^ size % 2 ^ 64)) ≡ distinct (bit x) (codes from size)
   counted = ap (λ (z : ℕ). ones (x / 2 ^ from % z)) (size_shifted size h) ∙ ones-codes x from size
 
   pub counted_most : ones (x / 2 ^ from % (1 * 2 ^ size % 2 ^ 64)) ≤ size
   counted_most = omega (arith, counted, distinct-most (bit x) (codes from size), length-codes from size)
-
--- ---- amounts
-
-module _ (x p : ℕ) (h : x ≤ 4096) (g : p < 256) where
-  pub product_most : x * p ≤ 1044480
-  product_most = mul-le-mul h (le_of_suc-le-suc g)
-
-  pub product_fits : Fits w32 (x * p)
-  product_fits = omega (arith, product_most)
-
-module _ (x y : ℕ) (h : x ≤ 64) (g : y ≤ 64) where
-  pub times_most : x * y ≤ 4096
-  times_most = mul-le-mul h g
-
-  pub times_fit : Fits w32 (x * y)
-  times_fit = omega (arith, times_most)
-
--- what equals a line is at most what the line is
-pub bounded : {x y : ℕ} (most : ℕ) → x ≡ y → y ≤ most → (x ≡ y) × (x ≤ most)
-bounded most e h = (e, omega arith)
 
 -- ---- the prices of the comparison codes
 

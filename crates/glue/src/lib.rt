@@ -10,6 +10,7 @@ ghost use Rattle.glue.specs.Codes as C;
 use words::Prices;
 
 // Whether a code is in use.
+#[tactic(auto, unfolding(bits::specs::Bits::bit))]
 pub fn has(part: u64, code: u32) -> bool
     requires { code < 32 }
     ensures { result ≡ B.bit part code }
@@ -18,6 +19,7 @@ pub fn has(part: u64, code: u32) -> bool
 }
 
 // How many of `size` codes are in use, from one code on.
+#[tactic(auto, using(crate::proofs::Counts::counted, crate::proofs::Counts::counted_most))]
 pub fn distinct(part: u64, from: u32, size: u32) -> u32
     requires { (from < 32) × (size ≤ 15) }
     ensures { (result ≡ G.distinct (B.bit part) (C.codes from size)) × (result ≤ size) }

@@ -4,10 +4,12 @@ use mathlib.Core.Bool.{Bool, true, false, not, false≢true, true≢false}
 use mathlib.Core.List.{List}
 use Prim.Native.Nat.{ℕ, zero, suc, ◌+◌, ◌<◌}
 use native.Mathlib.Omega.{arith}
-use lib.Dec.{eqb}
 use lib.ListN.{length, drop, get_or, drop_of_length-le}
-use borrow.Author.Tests.{eqb-true, not-true, not-false}
-use Rattle.std.specs.Prelude.{if◌then◌else◌, Ok, Err}
+use borrow.Author.Tests.{not-true, not-false}
+use Rattle.std.specs.Prelude.{if◌then◌else◌, Option, Some, None, Result, Ok, Err}
+use Rattle.words.specs.declared.Fault.{Fault}
+use Rattle.words.specs.declared.Fault.TheVariants.{ReadsUndriven, OtherOutputs}
+use Rattle.words.specs.Paper.{unless_fault}
 use Rattle.words.specs.Field.{kind_of}
 use Rattle.words.specs.Kinds.{is_recipe}
 use Rattle.words.specs.declared.Refusal.{Refusal}
@@ -28,13 +30,13 @@ pub record Faultless (file : File) (s : State) (w : ℕ) : Type 0 where
   pub outputs : is_recipe (kind_of w) ≡ true → (reads_undriven w ≡ false) × (shows_other w ≡ false)
 
 module _ (file : File) (s : State) (w : ℕ) where
-  pub fault_free : word_fault file s w ≡ 0 → Faultless file s w
+  pub fault_free : word_fault file s w ≡ None → Faultless file s w
   unfolding word_fault
   fault_free =
-      let Q : ℕ → Type 0 = λ n. n ≡ 0 → Faultless file s w in
-      either Q (not (in_sequence file s (kind_of w))) (λ _ e. absurd (omega arith))
-      (λ a. either Q (not (fits file w)) (λ _ e. absurd (omega arith))
-      (λ b. either Q (not (rises s w)) (λ _ e. absurd (omega arith))
+      let Q : Option Fault → Type 0 = λ n. n ≡ None → Faultless file s w in
+      either Q (not (in_sequence file s (kind_of w))) (λ _ e. absurd cc)
+      (λ a. either Q (not (fits file w)) (λ _ e. absurd cc)
+      (λ b. either Q (not (rises s w)) (λ _ e. absurd cc)
       (λ c.
       let given : (is_recipe (kind_of w) ≡ true → (reads_undriven w ≡ false) × (shows_other w ≡ false)) → Faultless file s w =
       λ o.
@@ -45,19 +47,19 @@ module _ (file : File) (s : State) (w : ℕ) where
         outputs = o;
       } in
       either Q (not (is_recipe (kind_of w))) (λ d _. given (λ r. absurd (apart (is_recipe (kind_of w)) r (not-true (is_recipe (kind_of w)) d))))
-      (λ _. either Q (reads_undriven w) (λ _ e. absurd (omega arith))
-      (λ u. either Q (shows_other w) (λ _ e. absurd (omega arith)) (λ v _. given (λ _. (u, v))))))))
+      (λ _. either Q (reads_undriven w) (λ _ e. absurd cc)
+      (λ u. either Q (shows_other w) (λ _ e. absurd cc) (λ v _. given (λ _. (u, v))))))))
     where
       apart : (b : Bool) → b ≡ true → b ≡ false → ⊥
       apart true p q = true≢false q
       apart false p q = false≢true p
 
-  pub no_fault : Faultless file s w → word_fault file s w ≡ 0
+  pub no_fault : Faultless file s w → word_fault file s w ≡ None
   unfolding word_fault
   no_fault p = rw (p.in_sequence_lem, p.layout, p.order) (by_kind (is_recipe (kind_of w)) refl)
     where
       by_kind : (b : Bool) → is_recipe (kind_of w) ≡ b
-          → ◌≡◌ {A = ℕ} (if not b then 0 else if reads_undriven w then 5 else if shows_other w then 6 else 0) 0
+          → ◌≡◌ {A = Option Fault} (if not b then None else if reads_undriven w then Some ReadsUndriven else if shows_other w then Some OtherOutputs else None) None
       by_kind false e = refl
       by_kind true e = let o = p.outputs e in rw (o.0, o.1) refl
 
@@ -78,7 +80,11 @@ module _ (file : File) (ws : List ℕ) (P : State → ℕ → Type 0)
   passed (suc n) i s t h p e =
       let w = get_or ws i 0 in
       let l : i < length ws = omega arith in
-      either (λ r. r ≡ Ok t → P t (length ws)) (eqb (word_fault file s w) 0)
-      (λ z. passed n (i + 1) (after s w) t (omega arith) (keeps s i l (fault_free file s w (eqb-true (word_fault file s w) 0 z)) p))
-      (λ _. apart _ t)
+      by_fault (word_fault file s w) refl
+      (λ z. passed n (i + 1) (after s w) t (omega arith) (keeps s i l (fault_free file s w z) p))
       (rw (drop-next ws i l) at e)
+    where
+      by_fault : {R : Type 0} (o : Option Fault) {x : Result State Refusal} → word_fault file s (get_or ws i 0) ≡ o
+          → (word_fault file s (get_or ws i 0) ≡ None → x ≡ Ok t → R) → unless_fault o i x ≡ Ok t → R
+      by_fault None h f = f h
+      by_fault (Some fault) h f = apart _ t

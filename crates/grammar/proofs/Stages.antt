@@ -11,7 +11,7 @@ use Rattle.words.specs.Field.{kind_of}
 use Rattle.words.specs.Kinds.{HEADER, PRICES, SOURCE, TARGET, RULE}
 use Rattle.words.proofs.Choices.{either, and_split, or_split}
 use Rattle.sequence.specs.Limits.{most_sources, most_targets, most_rules}
-use Rattle.sequence.specs.Sequence.{START, job_sequence, in_sequence}
+use Rattle.sequence.specs.Sequence.{START, stage_of, job_sequence, in_sequence}
 use Rattle.grammar.specs.Reading.{beginning, noted, after, function_in, reading}
 use Rattle.sequence.specs.declared.File.TheVariants.{AsJob}
 use Rattle.sequence.specs.declared.State.{State}
@@ -20,17 +20,17 @@ use Rattle.grammar.proofs.Faultless.{Faultless, passed}
 
 module _ (s : State) (P : ℕ → Type 0) where
   pub by_kind : (k : ℕ) → job_sequence s k ≡ true
-      → (s.stage ≡ START → P HEADER)
-      → (s.stage ≡ HEADER → P PRICES)
-      → (PRICES ≤ s.stage → s.stage ≤ SOURCE → s.sources < most_sources → P SOURCE)
-      → (SOURCE ≤ s.stage → s.stage ≤ TARGET → s.targets < most_targets → P TARGET)
-      → (SOURCE ≤ s.stage → s.stage ≤ RULE → s.rules < most_rules → P RULE)
+      → ((stage_of s) ≡ START → P HEADER)
+      → ((stage_of s) ≡ HEADER → P PRICES)
+      → (PRICES ≤ (stage_of s) → (stage_of s) ≤ SOURCE → s.sources < most_sources → P SOURCE)
+      → (SOURCE ≤ (stage_of s) → (stage_of s) ≤ TARGET → s.targets < most_targets → P TARGET)
+      → (SOURCE ≤ (stage_of s) → (stage_of s) ≤ RULE → s.rules < most_rules → P RULE)
       → P k
   unfolding job_sequence
   by_kind k f header prices source target rule =
       let Q : Bool → Type 0 = λ b. b ≡ true → P k in
-      either Q (eqb k HEADER) (λ e h. at HEADER e (header (eqb-true s.stage START h)))
-      (λ _. either Q (eqb k PRICES) (λ e h. at PRICES e (prices (eqb-true s.stage HEADER h)))
+      either Q (eqb k HEADER) (λ e h. at HEADER e (header (eqb-true (stage_of s) START h)))
+      (λ _. either Q (eqb k PRICES) (λ e h. at PRICES e (prices (eqb-true (stage_of s) HEADER h)))
       (λ _. either Q (eqb k SOURCE) (λ e h. at SOURCE e (among PRICES s.sources most_sources h source))
       (λ _. either Q (eqb k TARGET) (λ e h. at TARGET e (among SOURCE s.targets most_targets h target))
       (λ _. either Q (eqb k RULE) (λ e h. at RULE e (last h)) (λ _ e. absurd (false≢true e)))))) f
@@ -38,29 +38,29 @@ module _ (s : State) (P : ℕ → Type 0) where
       at : (n : ℕ) → eqb k n ≡ true → P n → P k
       at n e p = subst P (sym (eqb-true k n e)) p
 
-      among : {R : Type 0} (a n m : ℕ) → (eqb s.stage a || eqb s.stage (a + 1)) && ltb n m ≡ true
-          → (a ≤ s.stage → s.stage ≤ a + 1 → n < m → R) → R
+      among : {R : Type 0} (a n m : ℕ) → (eqb (stage_of s) a || eqb (stage_of s) (a + 1)) && ltb n m ≡ true
+          → (a ≤ (stage_of s) → (stage_of s) ≤ a + 1 → n < m → R) → R
       among a n m h r =
-          let u = and_split (eqb s.stage a || eqb s.stage (a + 1)) (ltb n m) h in
-          or_split (eqb s.stage a) (eqb s.stage (a + 1)) u.0
-          (λ e. let z = eqb-true s.stage a e in r (omega arith) (omega arith) (ltb-true n m u.1))
-          (λ e. let z = eqb-true s.stage (a + 1) e in r (omega arith) (omega arith) (ltb-true n m u.1))
+          let u = and_split (eqb (stage_of s) a || eqb (stage_of s) (a + 1)) (ltb n m) h in
+          or_split (eqb (stage_of s) a) (eqb (stage_of s) (a + 1)) u.0
+          (λ e. let z = eqb-true (stage_of s) a e in r (omega arith) (omega arith) (ltb-true n m u.1))
+          (λ e. let z = eqb-true (stage_of s) (a + 1) e in r (omega arith) (omega arith) (ltb-true n m u.1))
 
-      last : (eqb s.stage SOURCE || eqb s.stage TARGET || eqb s.stage RULE) && ltb s.rules most_rules ≡ true → P RULE
+      last : (eqb (stage_of s) SOURCE || eqb (stage_of s) TARGET || eqb (stage_of s) RULE) && ltb s.rules most_rules ≡ true → P RULE
       last h =
-          let u = and_split (eqb s.stage SOURCE || eqb s.stage TARGET || eqb s.stage RULE) (ltb s.rules most_rules) h in
+          let u = and_split (eqb (stage_of s) SOURCE || eqb (stage_of s) TARGET || eqb (stage_of s) RULE) (ltb s.rules most_rules) h in
           let n = ltb-true s.rules most_rules u.1 in
-          or_split (eqb s.stage SOURCE || eqb s.stage TARGET) (eqb s.stage RULE) u.0
-          (λ f. or_split (eqb s.stage SOURCE) (eqb s.stage TARGET) f
-          (λ e. let z = eqb-true s.stage SOURCE e in rule (omega arith) (omega arith) n)
-          (λ e. let z = eqb-true s.stage TARGET e in rule (omega arith) (omega arith) n))
-          (λ e. let z = eqb-true s.stage RULE e in rule (omega arith) (omega arith) n)
+          or_split (eqb (stage_of s) SOURCE || eqb (stage_of s) TARGET) (eqb (stage_of s) RULE) u.0
+          (λ f. or_split (eqb (stage_of s) SOURCE) (eqb (stage_of s) TARGET) f
+          (λ e. let z = eqb-true (stage_of s) SOURCE e in rule (omega arith) (omega arith) n)
+          (λ e. let z = eqb-true (stage_of s) TARGET e in rule (omega arith) (omega arith) n))
+          (λ e. let z = eqb-true (stage_of s) RULE e in rule (omega arith) (omega arith) n)
 
 -- ---- sources stand behind a header and prices
 
 record Behind (s : State) (i : ℕ) : Type 0 where
-  header : HEADER ≤ s.stage → 1 ≤ i
-  prices : PRICES ≤ s.stage → 2 ≤ i
+  header : HEADER ≤ (stage_of s) → 1 ≤ i
+  prices : PRICES ≤ (stage_of s) → 2 ≤ i
   sources : 1 ≤ s.sources → 2 ≤ i
 
 behind_more : (s : State) (i w : ℕ) → Faultless AsJob s w → Behind s i → Behind (after s w) (i + 1)

@@ -1,16 +1,19 @@
 -- Document 01, "Refusals that come from the input": "word by word, 2 to 6 in each".
-use Rattle.std.specs.Prelude.{ℕ, ◌+◌, ◌^◌, Bool, true, false, not, ◌&&◌, List, [], ◌∷◌, eqb, ltb, if◌then◌else◌, Result, Ok, Err}
+use Rattle.std.specs.Prelude.{ℕ, ◌+◌, ◌^◌, Bool, true, false, not, ◌&&◌, List, [], ◌∷◌, eqb, ltb, if◌then◌else◌, Option, Some, None, Result, Ok, Err}
 use Rattle.words.specs.Field.{field, kind_of, content_of, source_function, target_function}
-use Rattle.words.specs.Kinds.{HEADER, PRICES, SOURCE, TARGET, RULE, BINDING, GLUE, is_recipe}
-use Rattle.words.specs.Paper.{refusal, no_refusal}
-use Rattle.alu.specs.Function.{no_function}
+use Rattle.words.specs.Kinds.{HEADER, PRICES, SOURCE, TARGET, RULE, BINDING, GLUE, kind_named, is_recipe}
+use Rattle.words.specs.declared.kind.WordKind.{WordKind}
+use Rattle.words.specs.Paper.{unless_fault}
+use Rattle.words.specs.declared.Fault.{Fault}
+use Rattle.words.specs.declared.Fault.TheVariants.{OutOfSequence, NotLaidOut, NotRising, ReadsUndriven, OtherOutputs}
 use Rattle.alu.specs.Range.{is_function, is_width}
 use Rattle.recipe.specs.Fields.{source_of}
 use Rattle.layout.specs.Layout.{laid_out, reads_undriven, shows_other}
-use Rattle.sequence.specs.Sequence.{START, in_sequence}
+use Rattle.sequence.specs.Sequence.{stage_of, function_of, in_sequence}
 use Rattle.sequence.specs.declared.File.{File}
 use Rattle.sequence.specs.declared.File.TheVariants.{AsJob, AsMapping}
 use Rattle.sequence.specs.declared.State.{State}
+use Rattle.sequence.specs.declared.Last.{Last}
 use Rattle.words.specs.declared.Refusal.{Refusal}
 
 -- ---- "3. A field, number or zero bit against the layout": what stands below the kind; "bits not named are zero"
@@ -59,36 +62,40 @@ function_in w =
 unfoldable pub rises : State → ℕ → Bool
 rises s w =
     if eqb (kind_of w) RULE then true
-    else if eqb s.stage (kind_of w) then ltb s.function (function_in w)
+    else if eqb (stage_of s) (kind_of w) then ltb (function_of s) (function_in w)
     else true
 
 -- ---- one word
 
 -- the refusal of a word, 2 to 6 in this order, or none
-unfoldable pub word_fault : File → State → ℕ → ℕ
+unfoldable pub word_fault : File → State → ℕ → Option Fault
 word_fault file s w =
-    if not (in_sequence file s (kind_of w)) then 2
-    else if not (fits file w) then 3
-    else if not (rises s w) then 4
-    else if not (is_recipe (kind_of w)) then no_refusal
-    else if reads_undriven w then 5
-    else if shows_other w then 6
-    else no_refusal
+    if not (in_sequence file s (kind_of w)) then Some OutOfSequence
+    else if not (fits file w) then Some NotLaidOut
+    else if not (rises s w) then Some NotRising
+    else if not (is_recipe (kind_of w)) then None
+    else if reads_undriven w then Some ReadsUndriven
+    else if shows_other w then Some OtherOutputs
+    else None
 
 -- before the first word
 abbrev pub beginning : State
-beginning = record { stage = START; function = no_function; sources = 0; targets = 0; rules = 0; bindings = 0 }
+beginning = record { last = None; sources = 0; targets = 0; rules = 0; bindings = 0 }
 
 abbrev pub raised : ℕ → Bool → ℕ
 raised count true = count + 1
 raised count false = count
 
+-- the last word, of a kind and with a function
+abbrev pub last_word : ℕ → Option WordKind → Option Last
+last_word function None = None
+last_word function (Some kind) = Some (record { kind = kind; function = function })
+
 -- one more word of a kind
 abbrev pub noted : ℕ → ℕ → State → State
 noted kind function s =
     record {
-      stage = kind;
-      function = function;
+      last = last_word function (kind_named kind);
       sources = raised s.sources (eqb kind SOURCE);
       targets = raised s.targets (eqb kind TARGET);
       rules = raised s.rules (eqb kind RULE);
@@ -98,15 +105,16 @@ noted kind function s =
 abbrev pub after : State → ℕ → State
 after s w = noted (kind_of w) (function_in w) s
 
-abbrev pub step_of : File → State → ℕ → Result State ℕ
-step_of file s w = if eqb (word_fault file s w) no_refusal then Ok (after s w) else Err (word_fault file s w)
+abbrev pub unless : Option Fault → State → Result State Fault
+unless (Some fault) t = Err fault
+unless None t = Ok t
+
+abbrev pub step_of : File → State → ℕ → Result State Fault
+step_of file s w = unless (word_fault file s w) (after s w)
 
 -- ---- all words
 
 -- the words from a place on: the state after them, or the number and place of the first that is refused
 abbrev pub reading : File → State → ℕ → List ℕ → Result State Refusal
 reading file s place [] = Ok s
-reading file s place (w ∷ ws) =
-    if eqb (word_fault file s w) no_refusal
-    then reading file (after s w) (place + 1) ws
-    else Err (refusal (word_fault file s w) place)
+reading file s place (w ∷ ws) = unless_fault (word_fault file s w) place (reading file (after s w) (place + 1) ws)

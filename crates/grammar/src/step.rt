@@ -1,11 +1,13 @@
 // One word: refusals 2 to 6 in this order, or the state after it.
 ghost use Rattle.std.specs.Prelude.{◌≡◌, ◌≤◌};
+ghost use Rattle.words.specs.Field.{kind_of};
+ghost use Rattle.words.specs.Kinds.{kind_number};
 ghost use Rattle.sequence.specs.Limits.{most_job_words};
 ghost use Rattle.grammar.specs.Reading as R;
 ghost use Rattle.grammar.specs.Asked as Q;
 
-use sequence::{File, State, in_sequence};
-use words::{BINDING, GLUE, HEADER, NO_REFUSAL, PRICES, RULE, SOURCE, TARGET, content_of, kind_of};
+use sequence::{File, Last, State, in_sequence};
+use words::{Fault, WordKind, content_of, kind_of};
 
 // What a header must be: a width, and in a job bit 7 besides, which asks for the book.
 fn header_fits(file: File, word: u32) -> bool
@@ -17,82 +19,87 @@ fn header_fits(file: File, word: u32) -> bool
     }
 }
 
+// What stands below a word's kind is as the layout says.
+fn kind_fits(file: File, kind: WordKind, word: u32) -> bool
+    requires { kind_of word ≡ kind_number kind }
+    ensures { result ≡ R.fits file word }
+{
+    let content = content_of(word);
+    match kind {
+        WordKind::Header => header_fits(file, word),
+        WordKind::Prices => content < 0x0100_0000,
+        WordKind::Source => alu::is_function(content),
+        WordKind::Target => alu::is_function(content),
+        WordKind::Glue => true,
+        WordKind::Rule => layout::laid_out(word),
+        WordKind::Binding => layout::laid_out(word),
+    }
+}
+
 // Refusal 3 unless this holds: the bits below the kind are as the layout says.
+#[tactic(auto, using(crate::proofs::Steps::fits_unnamed, words::proofs::Named::named))]
 pub fn fits(file: File, word: u32) -> bool
     ensures { result ≡ R.fits file word }
 {
-    let kind = kind_of(word);
-    let content = content_of(word);
-    if kind == HEADER {
-        return header_fits(file, word);
+    match kind_of(word) {
+        Some(kind) => kind_fits(file, kind, word),
+        None => layout::laid_out(word),
     }
-    if kind == PRICES {
-        return content < 0x0100_0000;
-    }
-    if kind == SOURCE {
-        return alu::is_function(content);
-    }
-    if kind == TARGET {
-        return alu::is_function(content);
-    }
-    if kind == GLUE {
-        return true;
-    }
-    layout::laid_out(word)
 }
 
-// The function by which a word rises.
-fn function_in(word: u32) -> u32
+// The function by which a word of this kind rises.
+#[tactic(auto, using(crate::proofs::Steps::function_by, crate::proofs::Steps::recipe_function))]
+fn function_in(kind: WordKind, word: u32) -> u32
+    requires { kind_of word ≡ kind_number kind }
     ensures { result ≡ R.function_in word }
 {
-    let kind = kind_of(word);
-    if kind == SOURCE {
-        return words::source_function(word);
+    match kind {
+        WordKind::Source => words::source_function(word),
+        WordKind::Target => words::target_function(word),
+        _ => recipe::source_of(word),
     }
-    if kind == TARGET {
-        return words::target_function(word);
-    }
-    recipe::source_of(word)
 }
 
-// Refusal 4 unless this holds: the function is above the one before. Rules need no order.
-fn rises(s: State, word: u32) -> bool
+// Refusal 4 unless this holds of a word of this kind: the function is above the one before. Rules need no order.
+fn rises(s: State, kind: WordKind, word: u32) -> bool
+    requires { kind_of word ≡ kind_number kind }
     ensures { result ≡ R.rises s word }
 {
-    let kind = kind_of(word);
-    if kind == RULE {
+    let Some(last) = s.last else {
         return true;
+    };
+    match kind {
+        WordKind::Rule => true,
+        _ if s.ends_in(kind) => last.function < function_in(kind, word),
+        _ => true,
     }
-    if s.stage == kind {
-        return s.function < function_in(word);
-    }
-    true
 }
 
-// The refusal of a word, 2 to 6, or none.
-fn word_fault(file: File, s: State, word: u32) -> u32
+// The refusal of a word of this kind, 2 to 6, or none.
+#[tactic(auto, using(crate::proofs::Steps::refusals))]
+fn word_fault(file: File, s: State, kind: WordKind, word: u32) -> Option<Fault>
+    requires { kind_of word ≡ kind_number kind }
     ensures { result ≡ R.word_fault file s word }
 {
-    let kind = kind_of(word);
     if !in_sequence(file, s, kind) {
-        return 2;
+        return Some(Fault::OutOfSequence);
     }
-    if !fits(file, word) {
-        return 3;
+    if !kind_fits(file, kind, word) {
+        return Some(Fault::NotLaidOut);
     }
-    if !rises(s, word) {
-        return 4;
+    if !rises(s, kind, word) {
+        return Some(Fault::NotRising);
     }
-    if !words::is_recipe(kind) {
-        return NO_REFUSAL;
+    if !kind.is_recipe() {
+        return None;
     }
     if layout::reads_undriven(word) {
-        return 5;
+        return Some(Fault::ReadsUndriven);
     }
     if layout::shows_other(word) {
-        return 6;
+        return Some(Fault::OtherOutputs);
     }
-    NO_REFUSAL
+    None
 }
 
 fn raised(count: u32, more: bool) -> u32
@@ -102,30 +109,32 @@ fn raised(count: u32, more: bool) -> u32
     if more { count + 1 } else { count }
 }
 
-// The state after a word that passed.
-fn after(s: State, word: u32) -> State
-    requires { Q.Counted s most_job_words }
+// The state after a word of this kind that passed.
+fn after(s: State, kind: WordKind, word: u32) -> State
+    requires { Q.Counted s most_job_words × (kind_of word ≡ kind_number kind) }
     ensures { result ≡ R.after s word }
 {
-    let kind = kind_of(word);
+    let function = function_in(kind, word);
     State {
-        stage: kind,
-        function: function_in(word),
-        sources: raised(s.sources, kind == SOURCE),
-        targets: raised(s.targets, kind == TARGET),
-        rules: raised(s.rules, kind == RULE),
-        bindings: raised(s.bindings, kind == BINDING),
+        last: Some(Last { kind, function }),
+        sources: raised(s.sources, kind == WordKind::Source),
+        targets: raised(s.targets, kind == WordKind::Target),
+        rules: raised(s.rules, kind == WordKind::Rule),
+        bindings: raised(s.bindings, kind == WordKind::Binding),
     }
 }
 
-// The next state, or the number of the word's refusal.
-pub fn pass(file: File, s: State, word: u32) -> Result<State, u32>
+// The next state, or why the word is refused.
+#[tactic(auto, using(crate::proofs::Steps::no_step))]
+pub fn pass(file: File, s: State, word: u32) -> Result<State, Fault>
     requires { Q.Counted s most_job_words }
     ensures { result ≡ R.step_of file s word }
 {
-    let fault = word_fault(file, s, word);
-    if fault == NO_REFUSAL {
-        return Ok(after(s, word));
+    let Some(kind) = kind_of(word) else {
+        return Err(Fault::OutOfSequence);
+    };
+    match word_fault(file, s, kind, word) {
+        None => Ok(after(s, kind, word)),
+        Some(fault) => Err(fault),
     }
-    Err(fault)
 }

@@ -96,6 +96,7 @@ pub fn taken(hex: Hex, byte: u8) -> Option<Step>
 }
 
 // The word whose digits are all of a text.
+#[tactic(auto, using(crate::proofs::Digits::one_read, crate::proofs::Digits::none_read, crate::proofs::Digits::all_read))]
 pub fn word_in(text: &[u8]) -> Option<u32>
     ensures { result ≡ T.word_in text.now }
 {

@@ -1,18 +1,18 @@
 -- What the system's answers to reads come to: the bytes of a file, kept as far as there is room.
 use mathlib.Core.Path.{◌≡◌, refl, sym, ap, ◌∙◌}
 use mathlib.Core.Bool.{Bool, true, false}
-use mathlib.Core.List.{List, [], ◌++◌}
+use mathlib.Core.List.{List, ◌++◌}
 use Prim.Native.Nat.{ℕ, ◌+◌, ◌-◌, ◌≤◌}
 use native.Mathlib.Nat.{zero-add}
 use native.Mathlib.Omega.{arith}
 use borrow.Author.Tests.{ltb-true, ltb-false}
 use lib.Dec.{ltb}
 use lib.ListN.{length, take, drop, length-append, length-take}
-use lib.Seq.{sets, sets-eq, take-nil, take_all, take-append-le, take-append-add, take-append_seam}
+use lib.Seq.{sets, sets-eq, take_all, take-append-le, take-append-add, take-append_seam}
 use Rattle.words.proofs.Choices.{either}
 use Rattle.words.proofs.Copies.{sets-append}
 use Rattle.files.specs.Files.{words_of}
-use Rattle.input.specs.Read.{kept_words, kept_bytes, least, input_of, ReadToEnd}
+use Rattle.input.specs.Read.{kept_bytes, least, input_of, ReadToEnd}
 use Rattle.input.specs.Kept.{BringsBytes, Keeps}
 use Rattle.input.specs.declared.Input.{Input}
 
@@ -33,9 +33,6 @@ joined_kept k f c false e =
     ap (λ (l : List ℕ). sets (sets k 0 l) (length f) (take (length k - length f) c)) (take_all (length k) f h)
     ∙ ap (λ (i : ℕ). sets (sets k 0 f) i (take (length k - length f) c)) (sym (zero-add (length f)))
     ∙ sets-append f (take (length k - length f) c) k 0 ∙ ap (λ (l : List ℕ). sets k 0 l) (sym p)
-
-pub none_kept : (kept : List ℕ) → Keeps kept kept 0
-none_kept kept = record { file = []; size = refl; kept_first = rw (take-nil {A = ℕ} (length kept)) refl }
 
 pub more_kept : (kept now after : List ℕ) (at count : ℕ) → Keeps kept now at → length now ≡ length kept → BringsBytes now at after count
     → Keeps kept after (at + count)
@@ -83,12 +80,3 @@ all_read zeros bytes words after size r k l e w =
         ∙ ap (λ (m : List ℕ). take (least (length k.file) kept_bytes) m) k.kept_first
         ∙ ap (λ (n : ℕ). take (least (length k.file) n) (sets zeros 0 (take (length zeros) k.file))) (sym l)
         ∙ kept_back zeros k.file ∙ ap (λ (n : ℕ). take n k.file) l
-
-pub few_kept : (size : ℕ) (r : Input) → r ≡ input_of size → r.kept ≤ kept_words
-few_kept size r e =
-    omega (
-      arith,
-      ap (λ (i : Input). i.kept) e,
-      either (λ (m : ℕ). m ≤ kept_bytes) (ltb size kept_bytes) {x = size} {y = kept_bytes}
-          (λ q. let h = ltb-true size kept_bytes q in omega arith) (λ _. omega arith),
-    )

@@ -31,12 +31,6 @@ pub struct Input {
     pub cut: bool,
 }
 
-fn least(a: usize, b: usize) -> usize
-    ensures { (result ≡ R.least a b) × (result ≤ a) × (result ≤ b) }
-{
-    a.min(b)
-}
-
 // Puts bytes behind those that are kept already, as far as there is room.
 fn keep(chunk: &[u8], kept: &mut [u8], at: usize)
     ensures { kept.new ≡ sets kept.old at (take (length kept.old - at) chunk.now) }
@@ -88,6 +82,7 @@ fn read_some<S: Read>(
 }
 
 // Reads to the end of the file, and answers how many bytes it has.
+#[tactic(auto, using(crate::proofs::Chunks::more_kept))]
 fn read_bytes<S: Read>(
     rt: &HostRuntime,
     reader: &mut S,
@@ -113,7 +108,7 @@ fn words_read(bytes: &[u8], size: usize, words: &mut [u32]) -> Input
     ensures read { result ≡ R.input_of size }
     ensures words { words.new ≡ sets words.old 0 (F.words_of (take (R.least size R.kept_bytes) bytes.now)) }
 {
-    let n = least(size, KEPT_BYTES);
+    let n = size.min(KEPT_BYTES);
     let kept = files::words_of(&bytes[..n], words);
     Input {
         kept,
@@ -123,6 +118,7 @@ fn words_read(bytes: &[u8], size: usize, words: &mut [u32]) -> Input
 }
 
 // Reads words to the end of a reader. A read that fails is said on standard error, by the reader's name, and leaves the lent words as they were.
+#[tactic(auto, using(crate::proofs::Chunks::all_read))]
 pub fn read_words<S: Read>(
     rt: &HostRuntime,
     reader: &mut S,

@@ -3,19 +3,19 @@ use mathlib.Core.Path.{◌≡◌, refl, subst}
 use mathlib.Core.Bool.{Bool, true, false, not}
 use Prim.Native.Nat.{ℕ, ◌+◌, ◌≤◌, ◌<◌}
 use native.Mathlib.Omega.{arith}
-use lib.Dec.{eqb, ltb}
+use lib.Dec.{ltb}
 use borrow.Author.Tests.{le-leb, le-ltb, ltb-true, ltb-false}
-use Rattle.std.specs.Prelude.{if◌then◌else◌, Some, Ok, Err}
+use Rattle.std.specs.Prelude.{if◌then◌else◌, Option, Some, None, Ok, Err}
 use Rattle.words.specs.Field.{kind_of}
 use Rattle.words.specs.Kinds.{is_recipe}
-use Rattle.words.specs.Paper.{no_refusal}
+use Rattle.words.specs.declared.Fault.{Fault}
 use Rattle.words.specs.declared.Refusal.{Refusal}
 use Rattle.words.specs.declared.Witness.{Witness}
 use Rattle.alu.specs.Range.{is_width}
 use Rattle.layout.specs.Layout.{recipe_fault}
 use Rattle.binding.specs.Right.{claim_of}
 use Rattle.binding.specs.declared.Claim.{Claim}
-use Rattle.verdict.specs.Verdicts.{Refuses, Decides, judge_of, Passes, Judged}
+use Rattle.verdict.specs.Verdicts.{Refuses, Decides, unless, judge_of, Passes, Judged}
 use Rattle.verdict.specs.declared.Verdict.{Verdict}
 use Rattle.verdict.specs.declared.Verdict.TheVariants.{Right as IsRight, Wrong as IsWrong}
 use Rattle.judge_answers.specs.Everywhere.{RightBelow, JudgedEverywhere}
@@ -25,18 +25,16 @@ unfolding is_width
 width_of n l m = rw (le-ltb n 1 l, le-leb n 64 m) refl
 
 -- where both widths are widths, a refusal does not depend on them
-alike : (n : ℕ) (a b : Bool) (x y r : Refusal) (c : Claim)
-    → Passes (if a then Refuses x else if b then Refuses y else Decides c n) (Err r)
-    → Passes (if a then Refuses x else if b then Refuses y else Decides c 1) (Err r)
-alike n true b x y r c p = p
-alike n false true x y r c p = p
-alike n false false x y r c p = p
+alike : (n : ℕ) (a : Bool) (f : Option Fault) (x r : Refusal) (c : Claim)
+    → Passes (if a then Refuses x else unless f (Decides c n)) (Err r) → Passes (if a then Refuses x else unless f (Decides c 1)) (Err r)
+alike n true f x r c p = p
+alike n false (Some fault) x r c p = p
+alike n false None x r c p = p
 
 refused-alike : (w n : ℕ) (r : Refusal) → is_width n ≡ true → Judged w n (Err r) → Judged w 1 (Err r)
 unfolding judge_of
 refused-alike w n r e p =
-    rw (width_of 1 (omega arith) (omega arith))
-    (alike n (not (is_recipe (kind_of w))) (not (eqb (recipe_fault w) no_refusal)) _ _ r (claim_of w) (rw e at p))
+    rw (width_of 1 (omega arith) (omega arith)) (alike n (not (is_recipe (kind_of w))) (recipe_fault w) _ r (claim_of w) (rw e at p))
 
 module _ (w n : ℕ) (l : 1 ≤ n) (m : n ≤ 64) where
   pub refused-everywhere : (r : Refusal) → Judged w n (Err r) → JudgedEverywhere w (Err r)

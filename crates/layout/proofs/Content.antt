@@ -3,9 +3,9 @@ use mathlib.Core.Path.{◌≡◌, refl}
 use mathlib.Core.Bool.{false, not}
 use Prim.Native.Nat.{ℕ}
 use native.Mathlib.Omega.{arith}
-use Rattle.std.specs.Prelude.{if◌then◌else◌}
+use Rattle.std.specs.Prelude.{Some, None, if◌then◌else◌}
 use Rattle.words.specs.Field.{content_of}
-use Rattle.words.specs.Paper.{no_refusal}
+use Rattle.words.specs.declared.Fault.TheVariants.{NotLaidOut, ReadsUndriven, OtherOutputs}
 use Rattle.words.proofs.Fields.{same_field}
 use Rattle.alu.specs.Range.{is_function}
 use Rattle.recipe.proofs.Content.{same_source, same_fields, same_from_scratch}
@@ -28,7 +28,7 @@ module _ (v w : ℕ) (e : content_of v ≡ content_of w) where
   unfolding recipe_fault reads_undriven shows_other
   same_fault =
       λ i.
-      if not (same_layout i) then 3
-      else if (if same_from_scratch v w e i then false else not (reads_driven (same_fields v w e i))) then 5
-      else if (if same_from_scratch v w e i then false else not (shows_source (same_fields v w e i))) then 6
-      else no_refusal
+      if not (same_layout i) then Some NotLaidOut
+      else if (if same_from_scratch v w e i then false else not (reads_driven (same_fields v w e i))) then Some ReadsUndriven
+      else if (if same_from_scratch v w e i then false else not (shows_source (same_fields v w e i))) then Some OtherOutputs
+      else None

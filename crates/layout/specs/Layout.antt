@@ -1,7 +1,8 @@
 -- Refusals 3, 5 and 6 of a recipe word.
-use Rattle.std.specs.Prelude.{ℕ, Bool, false, not, ◌&&◌, ◌||◌, eqb, leb, ltb, if◌then◌else◌}
+use Rattle.std.specs.Prelude.{ℕ, Bool, false, not, Option, Some, None, ◌&&◌, ◌||◌, eqb, leb, ltb, if◌then◌else◌}
 use Rattle.words.specs.Field.{field}
-use Rattle.words.specs.Paper.{no_refusal}
+use Rattle.words.specs.declared.Fault.{Fault}
+use Rattle.words.specs.declared.Fault.TheVariants.{NotLaidOut, ReadsUndriven, OtherOutputs}
 use Rattle.alu.specs.Function.{function_of, drives}
 use Rattle.alu.specs.Range.{last_function, is_function}
 use Rattle.alu.specs.declared.PortSet.{PortSet}
@@ -76,9 +77,9 @@ unfoldable pub shows_other : ℕ → Bool
 shows_other w = if from_scratch w then false else not (shows_source (fields_of w))
 
 -- the refusal of a recipe word, 3, 5 or 6 in this order, or none
-unfoldable pub recipe_fault : ℕ → ℕ
+unfoldable pub recipe_fault : ℕ → Option Fault
 recipe_fault w =
-    if not (laid_out w) then 3
-    else if reads_undriven w then 5
-    else if shows_other w then 6
-    else no_refusal
+    if not (laid_out w) then Some NotLaidOut
+    else if reads_undriven w then Some ReadsUndriven
+    else if shows_other w then Some OtherOutputs
+    else None

@@ -6,6 +6,7 @@ ghost use Rattle.layout.specs.Layout as L;
 
 use alu::PortSet;
 use recipe::{Fields, from_scratch, source_of, unpack};
+use words::Fault;
 
 #[tactic(auto, unfolding(crate::specs::Layout::is_logic))]
 fn is_logic(function: u32) -> bool
@@ -112,17 +113,17 @@ pub fn shows_other(word: u32) -> bool
 
 // The refusal of a recipe word, 3, 5 or 6, or none.
 #[tactic(auto, unfolding(crate::specs::Layout::recipe_fault))]
-pub fn recipe_fault(word: u32) -> u32
+pub fn recipe_fault(word: u32) -> Option<Fault>
     ensures { result ≡ L.recipe_fault word }
 {
     if !laid_out(word) {
-        return 3;
+        return Some(Fault::NotLaidOut);
     }
     if reads_undriven(word) {
-        return 5;
+        return Some(Fault::ReadsUndriven);
     }
     if shows_other(word) {
-        return 6;
+        return Some(Fault::OtherOutputs);
     }
-    words::NO_REFUSAL
+    None
 }

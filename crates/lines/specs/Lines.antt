@@ -1,10 +1,11 @@
 -- The lines of refusals: document 01, "A refusal prints only REFUSED, number and place in decimal".
 use Rattle.std.specs.Prelude.{ℕ, Bool, true, false, List, ◌++◌}
-use Rattle.words.specs.Paper.{refusal}
+use Rattle.words.specs.Paper.{number_of, refusal}
 use Rattle.words.specs.declared.Refusal.{Refusal}
 use Rattle.words.specs.declared.Witness.{Witness}
 use Rattle.bits.specs.Bits.{num}
 use Rattle.text.specs.Text.{bytes, labelled}
+use Rattle.words.specs.declared.Fault.TheVariants.{WrongRecipe}
 
 -- no line has more bytes
 abbrev pub most_line_bytes : ℕ
@@ -19,7 +20,7 @@ most_witness_bytes = 106
 
 -- "REFUSED, number and place in decimal"
 unfoldable pub refusal_text : Refusal → List ℕ
-refusal_text r = labelled (bytes "REFUSED ") r.number ++ labelled (bytes " ") r.place
+refusal_text r = labelled (bytes "REFUSED ") (number_of r.fault) ++ labelled (bytes " ") r.place
 
 unfoldable pub refused_line : Refusal → List ℕ
 refused_line r = refusal_text r ++ bytes "\n"
@@ -41,4 +42,4 @@ witness_text v =
     ++ labelled (bytes " CARRY ") (num v.carry)
 
 unfoldable pub wrong_line : Witness → List ℕ
-wrong_line v = refusal_text (refusal 10 v.function) ++ witness_text v ++ bytes "\n"
+wrong_line v = refusal_text (refusal WrongRecipe v.function) ++ witness_text v ++ bytes "\n"

@@ -5,7 +5,7 @@ ghost use Rattle.std.specs.Prelude.{◌+◌, ◌≤◌, length};
 ghost use Rattle.text.specs.Text as P;
 ghost use Rattle.lines.specs.Lines as L;
 
-use words::{Refusal, Witness};
+use words::{Fault, Refusal, Witness};
 
 // The most bytes of a line.
 pub const MOST_LINE_BYTES: usize = 160;
@@ -16,7 +16,7 @@ pub fn put_refusal(refusal: Refusal, out: &mut [u8], at: usize) -> usize
     ensures short { result ≤ at + L.most_refusal_bytes }
     ensures text { P.Puts out.old at (L.refusal_text refusal) out.new result }
 {
-    let end = text::put_labelled(b"REFUSED ", refusal.number as u64, out, at);
+    let end = text::put_labelled(b"REFUSED ", u32::from(refusal.fault) as u64, out, at);
     text::put_labelled(b" ", refusal.place as u64, out, end)
 }
 
@@ -62,7 +62,7 @@ pub fn wrong_line(witness: Witness, out: &mut [u8]) -> usize
     ensures text { P.Puts out.old 0 (L.wrong_line witness) out.new result }
 {
     let refusal = Refusal {
-        number: 10,
+        fault: Fault::WrongRecipe,
         place: witness.function as usize,
     };
     let end = put_refusal(refusal, out, 0);

@@ -7,9 +7,10 @@ use Rattle.words.specs.Paper.{refusal}
 use Rattle.input.specs.declared.Input.{Input}
 use Rattle.std.specs.Prelude.{Err}
 use Rattle.map_answers.specs.Answers.{job_answer, job_lent}
+use Rattle.words.specs.declared.Fault.TheVariants.{OutOfSequence}
 
 module _ (job lent : List ℕ) (input : Input) (cut : input.cut ≡ true) where
-  pub cut-before_all : job_answer job input lent ≡ Err (refusal 2 input.whole)
+  pub cut-before_all : job_answer job input lent ≡ Err (refusal OutOfSequence input.whole)
   unfolding job_answer
   cut-before_all = rw cut refl
 

@@ -17,6 +17,7 @@ use Rattle.input.specs.declared.Input.{Input}
 use Rattle.mapper.specs.Mapping.{choice_of, answer_to, answer_for, answer_of}
 use Rattle.map_answers.specs.Answers.{words_written, job_answer}
 use Rattle.map_answers.specs.Asked.{Room, RoomFor}
+use Rattle.words.specs.declared.Fault.TheVariants.{OutOfSequence, TooFewWords}
 
 -- ---- no more words are written than were lent
 
@@ -24,7 +25,7 @@ written_within : (sources : ℕ) (lent : List ℕ) → words_written (written_of
 unfolding written_of
 written_within sources lent =
     either (λ (w : Result ℕ Refusal). words_written w ≤ length lent) (ltb (length lent) (words_needed sources))
-    {x = Err (refusal 23 (words_needed sources))} {y = Ok (words_needed sources)}
+    {x = Err (refusal TooFewWords (words_needed sources))} {y = Ok (words_needed sources)}
     (λ _. omega arith) (λ e. ltb-false (length lent) (words_needed sources) e)
 
 choice_within : (c : Result (List ℕ) ℕ) (lent : List ℕ) → words_written (answer_to c lent) ≤ length lent
@@ -43,7 +44,7 @@ job_within : (job : List ℕ) (input : Input) (lent : List ℕ) → words_writte
 unfolding job_answer
 job_within job input lent =
     either (λ (a : Result ℕ Refusal). words_written a ≤ length lent) input.cut
-    {x = Err (refusal 2 input.whole)} {y = answer_of job lent}
+    {x = Err (refusal OutOfSequence input.whole)} {y = answer_of job lent}
     (λ _. omega arith) (λ _. answer_within job lent)
 
 pub room_for : (job lent after out : List ℕ) (input : Input) (a : Result ℕ Refusal) → a ≡ job_answer job input lent → length after ≡ length lent

@@ -13,6 +13,7 @@ use Rattle.std.specs.Prelude.{if◌then◌else◌, Ok, Err}
 use Rattle.words.specs.Paper.{refusal}
 use Rattle.sequence.specs.Limits.{most_job_words}
 use Rattle.files.specs.Files.{words_of}
+use Rattle.reader.specs.Words.{words_read}
 use Rattle.reader.specs.Job.{job_of}
 use Rattle.text.specs.Text.{Puts}
 use Rattle.input.specs.Read.{kept_words, kept_bytes, input_of, ReadToEnd}
@@ -22,6 +23,7 @@ use Rattle.mapper.specs.Mapping.{answer_of, lent_after_map}
 use Rattle.map_answers.specs.Answers.{map_text, job_answer, job_lent, SaysMapped}
 use Rattle.map_answers.specs.Bytes.{job_text}
 use Rattle.map_answers.specs.declared.Said.{Said}
+use Rattle.words.specs.declared.Fault.TheVariants.{BadLength, OutOfSequence}
 
 words_length : (file : List ℕ) → length (words_of file) ≡ length file / 4
 unfolding words_of
@@ -36,11 +38,11 @@ words_text : List ℕ → List ℕ → List ℕ
 words_text ws lent = map_text (answer_of ws lent) (lent_after_map ws lent)
 
 module _ (ws lent : List ℕ) (h : most_job_words < length ws) where
-  too_long : answer_of ws lent ≡ Err (refusal 1 0)
-  unfolding answer_of job_of
+  too_long : answer_of ws lent ≡ Err (refusal BadLength 0)
+  unfolding answer_of job_of words_read
   too_long = rw (le-ltb (length ws) 1 (omega arith), lt-ltb most_job_words (length ws) h) refl
 
-  too_long_text : words_text ws lent ≡ map_text (Err (refusal 1 0)) lent
+  too_long_text : words_text ws lent ≡ map_text (Err (refusal BadLength 0)) lent
   unfolding words_text
   too_long_text = rw too_long refl
 
@@ -60,9 +62,9 @@ unfolding job_answer job_lent job_text words_text
 says_of_the_bytes file lent = by_rest (not (eqb (length file % 4) 0))
   where
     by_rest : (cut : Bool)
-        → map_text (if cut then Err (refusal 2 (length file / 4)) else answer_of (words_of (take kept_bytes file)) lent)
+        → map_text (if cut then Err (refusal OutOfSequence (length file / 4)) else answer_of (words_of (take kept_bytes file)) lent)
         (if cut then lent else lent_after_map (words_of (take kept_bytes file)) lent)
-        ≡ (if cut then map_text (Err (refusal 2 (length file / 4))) lent else words_text (words_of file) lent)
+        ≡ (if cut then map_text (Err (refusal OutOfSequence (length file / 4))) lent else words_text (words_of file) lent)
     by_rest true = refl
     by_rest false = kept_enough file lent (ltb kept_bytes (length file)) refl
 

@@ -10,6 +10,7 @@ use Rattle.input.specs.declared.Input.{Input}
 use Rattle.mapper.specs.Mapping.{answer_of, lent_after_map}
 use Rattle.words.specs.declared.Refusal.{Refusal}
 use Rattle.map_answers.specs.declared.Said.{Said}
+use Rattle.words.specs.declared.Fault.TheVariants.{OutOfSequence}
 
 -- ---- the text of an answer
 
@@ -26,7 +27,7 @@ words_written (Err r) = 0
 -- ---- the answer to an input: the words that were kept of a job, and what was read
 
 unfoldable pub job_answer : List ℕ → Input → List ℕ → Result ℕ Refusal
-job_answer job input lent = if input.cut then Err (refusal 2 input.whole) else answer_of job lent
+job_answer job input lent = if input.cut then Err (refusal OutOfSequence input.whole) else answer_of job lent
 
 -- the lent words afterwards
 unfoldable pub job_lent : List ℕ → Input → List ℕ → List ℕ

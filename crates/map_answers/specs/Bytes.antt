@@ -6,8 +6,9 @@ use Rattle.files.specs.Files.{words_of}
 use Rattle.lines.specs.Lines.{refused_line}
 use Rattle.mapper.specs.Mapping.{answer_of, lent_after_map}
 use Rattle.map_answers.specs.Answers.{map_text}
+use Rattle.words.specs.declared.Fault.TheVariants.{OutOfSequence}
 
 unfoldable pub job_text : List ℕ → List ℕ → List ℕ
 job_text file lent =
-    if not (eqb (length file % 4) 0) then refused_line (refusal 2 (length file / 4))
+    if not (eqb (length file % 4) 0) then refused_line (refusal OutOfSequence (length file / 4))
     else map_text (answer_of (words_of file) lent) (lent_after_map (words_of file) lent)

@@ -8,7 +8,7 @@ ghost use Rattle.map_answers.specs.Asked as Q;
 
 use console::Failed;
 use input::Input;
-use words::Refusal;
+use words::{Fault, Refusal};
 
 // The most bytes of a text: a line for each word of a mapping, and room for the longest line.
 pub const MOST_TEXT_BYTES: usize = listing::MOST_BINDING_BYTES * sequence::MOST_MAPPING_WORDS
@@ -29,7 +29,7 @@ fn map_file(job: &[u32], input: Input, lent: &mut [u32]) -> Result<usize, Refusa
 {
     if input.cut {
         return Err(Refusal {
-            number: 2,
+            fault: Fault::OutOfSequence,
             place: input.whole,
         });
     }

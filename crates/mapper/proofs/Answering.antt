@@ -16,7 +16,7 @@ use Rattle.reader.specs.Job.{job_of, WellFormedJob}
 use Rattle.reader.specs.declared.Job.{Job}
 use Rattle.std.specs.Prelude.{Result, Ok, Err}
 use Rattle.wellformed.proofs.JobWords.{JobFacts, well_formed}
-use Rattle.table.specs.Parts.{sources_of, targets_of, rules_of, terms_with}
+use Rattle.table.specs.Parts.{sources_of, rules_of, Terms, terms_of}
 use Rattle.glue.specs.Glue.{glue}
 use Rattle.tally.specs.Parts.{set_count}
 use Rattle.tally.proofs.Joining.{price_is_glue}
@@ -26,6 +26,7 @@ use Rattle.choice.specs.Choose.{choose}
 use Rattle.choice.specs.Chosen.{KeptChoice, WritableChoice, kept_as}
 use Rattle.mapper.specs.Mapping.{book_of, choice_of, chosen_words, answer_to, answer_for, answer_of, lent_to, lent_for, lent_after_map}
 use Rattle.choice.specs.declared.Chosen.{Chosen}
+use Rattle.words.specs.declared.Fault.TheVariants.{Unmappable}
 
 -- ---- the parts of a job's words
 
@@ -53,19 +54,22 @@ module _ (ws : List ℕ) (job : Job) (e : WellFormedJob ws job) where
   pub no_book : job.book ≡ false → [] ≡ book_of job
   no_book h = rw h refl
 
-  module _ (ss ts rs : List ℕ) (es : ss ≡ sources_of ws job) (et : ts ≡ targets_of ws job) (er : rs ≡ rules_of ws job) where
-    pub sources_few : length ss ≤ most_sources
-    sources_few = omega (arith, ap length es ∙ sources_length, facts.sources_most)
+  module _ (t : Terms) (rs : List ℕ) (et : t ≡ terms_of ws job) (er : rs ≡ rules_of ws job) where
+    counted : length t.sources ≡ job.sources
+    counted = ap (λ (x : Terms). length x.sources) et ∙ sources_length
+
+    pub sources_few : length t.sources ≤ most_sources
+    sources_few = omega (arith, counted, facts.sources_most)
 
     pub rules_few : (n : ℕ) → n ≤ most_rules → length rs + n < 2 ^ 32
     rules_few n h = omega (arith, ap length er, rules_length)
 
     pub kept_choice : (bs : List ℕ) → bs ≡ book_of job
-        → (c : Result Chosen ℕ) → KeptChoice c (length ss) (choose (terms_with job ss ts) (rs ++ bs) [] ss)
+        → (c : Result Chosen ℕ) → KeptChoice c (length t.sources) (choose t (rs ++ bs) [] t.sources)
         → KeptChoice c job.sources (choice_of ws job)
     kept_choice bs eb c k =
-        subst (λ (m : ℕ). KeptChoice c m (choice_of ws job)) (ap length es ∙ sources_length)
-        (subst (KeptChoice c (length ss)) (λ i. choose (terms_with job (es i) (et i)) (er i ++ eb i) [] (es i)) k)
+        subst (λ (m : ℕ). KeptChoice c m (choice_of ws job)) counted
+        (subst (KeptChoice c (length t.sources)) (λ i. choose (et i) (er i ++ eb i) [] (et i).sources) k)
 
 -- ---- the writing
 
@@ -102,7 +106,7 @@ module _ (ws : List ℕ) (job : Job) (e : WellFormedJob ws job) (d : Result Chos
   choice_is x u = ap (λ (y : Result Chosen ℕ). kept_as y job.sources) (sym u) ∙ k.same
 
   module _ (f : ℕ) (u : d ≡ Err f) where
-    pub unmapped_answer : Err (refusal 12 f) ≡ answer_to (choice_of ws job) lent
+    pub unmapped_answer : Err (refusal Unmappable f) ≡ answer_to (choice_of ws job) lent
     unmapped_answer = ap (λ (x : Result (List ℕ) ℕ). answer_to x lent) (choice_is (Err f) u)
 
     pub unmapped_lent : lent ≡ lent_to job (choice_of ws job) lent

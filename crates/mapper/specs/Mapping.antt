@@ -9,6 +9,7 @@ use Rattle.table.specs.Parts.{sources_of, rules_of, terms_of}
 use Rattle.pricer.specs.Pricing.{glue_of}
 use Rattle.writer.specs.Write.{mapping_words, written_of, lent_after}
 use Rattle.choice.specs.Choose.{choose}
+use Rattle.words.specs.declared.Fault.TheVariants.{Unmappable}
 
 -- request #101: "Header bit 7 of a job .. places the book after the job's own rules"
 abbrev pub book_of : Job → List ℕ
@@ -29,7 +30,7 @@ chosen_words job bound = mapping_words job.width bound (glue_of job bound)
 
 -- "12. Unmappable; place: lowest function without a usable rule."; and "23. Lent words fewer than sources + 2; place: words needed. Last"
 abbrev pub answer_to : Result (List ℕ) ℕ → List ℕ → Result ℕ Refusal
-answer_to (Err place) lent = Err (refusal 12 place)
+answer_to (Err place) lent = Err (refusal Unmappable place)
 answer_to (Ok bound) lent = written_of (length bound) lent
 
 abbrev pub answer_for : List ℕ → Result Job Refusal → List ℕ → Result ℕ Refusal

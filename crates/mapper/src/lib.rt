@@ -10,7 +10,7 @@ ghost use Rattle.mapper.specs.Mapping as M;
 use book::BOOK;
 use choice::Chosen;
 use reader::Job;
-use words::Refusal;
+use words::{Fault, Refusal};
 
 // The choice for a job that was read. Its rules are a part of its words that begins after its tables; the book, if it asks for it, stands
 // behind them.
@@ -18,13 +18,12 @@ fn choice_of(job: Job, words: &[u32]) -> Result<Chosen, u32>
     requires { J.WellFormedJob words.now job }
     ensures { K.KeptChoice result job.sources (M.choice_of words.now job) }
 {
-    let sources = table::sources_of(words, job);
-    let targets = table::targets_of(words, job);
+    let terms = table::terms_of(words, job);
     let rules = table::rules_of(words, job);
     if job.book {
-        return choice::choose(job, sources, targets, rules, &BOOK);
+        return choice::choose(&terms, rules, &BOOK);
     }
-    choice::choose(job, sources, targets, rules, &[])
+    choice::choose(&terms, rules, &[])
 }
 
 // Writes the mapping that binds by the chosen rules.
@@ -49,7 +48,7 @@ fn map_read(job: Job, words: &[u32], lent: &mut [u32]) -> Result<usize, Refusal>
 {
     match choice_of(job, words) {
         Err(function) => Err(Refusal {
-            number: 12,
+            fault: Fault::Unmappable,
             place: function as usize,
         }),
         Ok(chosen) => write_chosen(job, chosen, lent),

@@ -65,7 +65,7 @@ struct Outcome {
 fn of_answer(answer: Result<usize, words::Refusal>) -> Result<usize, Refusal> {
     match answer {
         Ok(size) => Ok(size),
-        Err(refusal) => Err(refused(Subject::Job, refusal.number, refusal.place)),
+        Err(refusal) => Err(told::refusal_of(Subject::Job, refusal)),
     }
 }
 

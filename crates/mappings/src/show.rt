@@ -27,7 +27,7 @@ fn say_answer(rt: &HostRuntime, answer: Result<usize, Refusal>) {
             say::text(rt, b" words");
         }
         Err(refusal) => {
-            say::count(rt, b": refused ", refusal.number as u64);
+            say::count(rt, b": refused ", u32::from(refusal.fault) as u64);
             say::count(rt, b" ", refusal.place as u64);
         }
     }

@@ -60,7 +60,8 @@ pub fn tables_of(words: &[u32], job: Job) -> Tables
     requires { J.WellFormedJob words.now job }
     ensures { result ≡ O.tables_in words.now job }
 {
-    let sources: [u32; MOST_SOURCES] = table_of(table::sources_of(words, job));
-    let targets: [u32; MOST_TARGETS] = table_of(table::targets_of(words, job));
+    let terms = table::terms_of(words, job);
+    let sources: [u32; MOST_SOURCES] = table_of(terms.sources);
+    let targets: [u32; MOST_TARGETS] = table_of(terms.targets);
     tables_with(job, sources, targets)
 }

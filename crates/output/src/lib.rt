@@ -69,6 +69,7 @@ pub fn shown_comparison(code: u32, to1: bool, gor: bool, gand: bool, s: bool, to
 }
 
 // The ports that the output codes show of a target's.
+#[tactic(auto, using(crate::proofs::Codes::output_parts))]
 pub fn outputs_show(outputs: Outputs, n: u32, target: Ports) -> Ports
     requires { Q.Width n × (target.o0 < 2 ^ n) }
     ensures { result ≡ B.outputs_show outputs n target }

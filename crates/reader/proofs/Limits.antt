@@ -1,17 +1,50 @@
--- "1. No words, over [the most]": one answer at either end, another between.
+-- "1. No words, over [the most]": what the words are read as, and what is known where they are.
 use mathlib.Core.Path.{◌≡◌, refl}
+use mathlib.Core.List.{List}
 use Prim.Native.Nat.{ℕ, ◌<◌, ◌≤◌}
 use native.Mathlib.Omega.{arith}
 use lib.Dec.{ltb}
-use borrow.Author.Tests.{lt-ltb, le-ltb}
-use Rattle.std.specs.Prelude.{if◌then◌else◌}
+use lib.ListN.{length}
+use borrow.Author.Tests.{lt-ltb, le-ltb, ltb-false}
+use Rattle.std.specs.Prelude.{Result, Ok, Err}
+use Rattle.words.specs.Paper.{refusal}
+use Rattle.words.specs.declared.Refusal.{Refusal}
+use Rattle.words.specs.declared.Fault.TheVariants.{BadLength}
+use Rattle.words.proofs.Choices.{either}
+use Rattle.sequence.specs.declared.File.{File}
+use Rattle.sequence.specs.declared.File.TheVariants.{AsJob, AsMapping}
+use Rattle.sequence.specs.declared.State.{State}
+use Rattle.grammar.specs.Reading.{beginning, reading}
+use Rattle.reader.specs.Words.{most_words, words_read}
 
-module _ {A : Type 0} (most n : ℕ) (out within : A) where
-  pub none : n < 1 → out ≡ (if ltb n 1 then out else if ltb most n then out else within)
-  none h = rw (lt-ltb n 1 h) refl
+module _ (file : File) (ws : List ℕ) where
+  pub no_words : length ws < 1 → Err (refusal BadLength 0) ≡ words_read file ws
+  unfolding words_read
+  no_words h = rw (lt-ltb (length ws) 1 (omega arith)) refl
 
-  pub many : 1 ≤ most → most < n → out ≡ (if ltb n 1 then out else if ltb most n then out else within)
-  many l h = rw (le-ltb n 1 (omega arith), lt-ltb most n h) refl
+  pub many_words : most_words file < length ws → Err (refusal BadLength 0) ≡ words_read file ws
+  unfolding words_read
+  many_words h = rw (le-ltb (length ws) 1 (omega arith), lt-ltb (most_words file) (length ws) h) refl
 
-  pub between : 1 ≤ n → n ≤ most → (if ltb n 1 then out else if ltb most n then out else within) ≡ within
-  between l h = rw (le-ltb n 1 l, le-ltb most n h) refl
+  pub some_words : 1 ≤ length ws → length ws ≤ most_words file → words_read file ws ≡ reading file beginning 0 ws
+  unfolding words_read
+  some_words l h = rw (le-ltb (length ws) 1 l, le-ltb (most_words file) (length ws) h) refl
+
+  -- words that were read
+  pub record Read (s : State) : Type 0 where
+    pub some : 1 ≤ length ws
+    pub few : length ws ≤ most_words file
+    pub read : reading file beginning 0 ws ≡ Ok s
+
+  pub were_read : (s : State) → words_read file ws ≡ Ok s → Read s
+  unfolding words_read
+  were_read s =
+      let Q : Result State Refusal → Type 0 = λ r. r ≡ Ok s → Read s in
+      either Q (ltb (length ws) 1) (λ _ e. absurd cc)
+      (λ a. either Q (ltb (most_words file) (length ws)) (λ _ e. absurd cc)
+      (λ b e. record { some = ltb-false (length ws) 1 a; few = ltb-false (most_words file) (length ws) b; read = e }))
+
+-- no file has more words than a job may
+pub most_of_all : (file : File) → most_words file ≤ 568
+most_of_all AsJob = omega arith
+most_of_all AsMapping = omega arith

@@ -3,12 +3,12 @@ use Rattle.std.specs.Prelude.{ℕ, ◌≡◌, List, [], ◌∷◌, eqb, ltb, len
 use Rattle.words.specs.Field.{field}
 use Rattle.words.specs.Paper.{Paper, refusal, accepted, told}
 use Rattle.words.specs.declared.Prices.{Prices}
-use Rattle.sequence.specs.Limits.{most_job_words}
-use Rattle.grammar.specs.Reading.{reading, beginning}
+use Rattle.reader.specs.Words.{words_read}
 use Rattle.sequence.specs.declared.File.TheVariants.{AsJob}
 use Rattle.sequence.specs.declared.State.{State}
 use Rattle.words.specs.declared.Refusal.{Refusal}
 use Rattle.reader.specs.declared.Job.{Job}
+use Rattle.words.specs.declared.Fault.TheVariants.{OutOfSequence}
 
 -- "bits 23..16 inverter a, 15..8 two-input gate b, 7..0 two-way multiplexer m"
 abbrev pub prices_in : ℕ → Prices
@@ -30,14 +30,10 @@ job_facts header prices s =
 abbrev pub job_ended : List ℕ → Result State Refusal → Result Job Refusal
 job_ended ws (Err r) = Err r
 job_ended ws (Ok s) =
-    if ltb s.sources 1 then Err (refusal 2 (length ws)) else Ok (job_facts (get_or ws 0 0) (get_or ws 1 0) s)
+    if ltb s.sources 1 then Err (refusal OutOfSequence (length ws)) else Ok (job_facts (get_or ws 0 0) (get_or ws 1 0) s)
 
--- "1. No words, over 568 in a job ..; place 0." "1 first; then word by word, 2 to 6 in each"
 unfoldable pub job_of : List ℕ → Result Job Refusal
-job_of ws =
-    if ltb (length ws) 1 then Err (refusal 1 0)
-    else if ltb most_job_words (length ws) then Err (refusal 1 0)
-    else job_ended ws (reading AsJob beginning 0 ws)
+job_of ws = job_ended ws (words_read AsJob ws)
 
 -- "A job .. is well formed if none of 1 to 6 below holds of its words": it then says this
 abbrev pub WellFormedJob : List ℕ → Job → Type 0

@@ -4,11 +4,12 @@
 
 ghost use Rattle.std.specs.Prelude.{◌≡◌};
 ghost use Rattle.reader.specs.Starts as S;
+ghost use Rattle.reader.specs.Words as W;
 ghost use Rattle.reader.specs.Job as J;
 ghost use Rattle.reader.specs.Mapping as M;
 
 use sequence::{File, MOST_JOB_WORDS, MOST_MAPPING_WORDS, State};
-use words::{Prices, Refusal};
+use words::{Fault, Prices, Refusal, WordKind};
 
 // The word at which the sources of a job begin, and the one at which the bindings of a mapping do.
 pub const SOURCES_START: usize = 2;
@@ -60,25 +61,40 @@ fn job_facts(header: u32, prices: u32, s: State) -> Job
     }
 }
 
+// The most words of a file.
+fn most_words(file: File) -> usize
+    ensures { result ≡ W.most_words file }
+{
+    match file {
+        File::AsJob => MOST_JOB_WORDS,
+        File::AsMapping => MOST_MAPPING_WORDS,
+    }
+}
+
+// The words of a file one by one: refusal 1, or the first of 2 to 6.
+fn words_read(file: File, words: &[u32]) -> Result<State, Refusal>
+    ensures { result ≡ W.words_read file words.now }
+{
+    let bad_length = Err(Refusal {
+        fault: Fault::BadLength,
+        place: 0,
+    });
+    if words.len() < 1 {
+        return bad_length;
+    }
+    if most_words(file) < words.len() {
+        return bad_length;
+    }
+    scan::read_words(file, words)
+}
+
 pub fn read_job(words: &[u32]) -> Result<Job, Refusal>
     ensures { result ≡ J.job_of words.now }
 {
-    if words.len() < 1 {
-        return Err(Refusal {
-            number: 1,
-            place: 0,
-        });
-    }
-    if MOST_JOB_WORDS < words.len() {
-        return Err(Refusal {
-            number: 1,
-            place: 0,
-        });
-    }
-    let s = scan::read_words(File::AsJob, words)?;
+    let s = words_read(File::AsJob, words)?;
     if s.sources < 1 {
         return Err(Refusal {
-            number: 2,
+            fault: Fault::OutOfSequence,
             place: words.len(),
         });
     }
@@ -98,22 +114,10 @@ fn mapping_facts(header: u32, last: u32, s: State) -> Mapping
 pub fn read_mapping(words: &[u32]) -> Result<Mapping, Refusal>
     ensures { result ≡ M.mapping_of words.now }
 {
-    if words.len() < 1 {
+    let s = words_read(File::AsMapping, words)?;
+    if !s.ends_in(WordKind::Glue) {
         return Err(Refusal {
-            number: 1,
-            place: 0,
-        });
-    }
-    if MOST_MAPPING_WORDS < words.len() {
-        return Err(Refusal {
-            number: 1,
-            place: 0,
-        });
-    }
-    let s = scan::read_words(File::AsMapping, words)?;
-    if s.stage != words::GLUE {
-        return Err(Refusal {
-            number: 2,
+            fault: Fault::OutOfSequence,
             place: words.len(),
         });
     }

@@ -26,14 +26,14 @@ fn facts_of(job: Job) -> JobFacts {
 
 fn from_job(answer: Result<Job, words::Refusal>) -> Result<JobFacts, Refusal> {
     match answer {
-        Err(refusal) => { Err(refused(Subject::Job, refusal.number, refusal.place)) }
+        Err(refusal) => { Err(told::refusal_of(Subject::Job, refusal)) }
         Ok(job) => Ok(facts_of(job)),
     }
 }
 
 fn from_mapping(answer: Result<Mapping, words::Refusal>) -> Result<MappingFacts, Refusal> {
     match answer {
-        Err(refusal) => { Err(refused(Subject::Mapping, refusal.number, refusal.place)) }
+        Err(refusal) => { Err(told::refusal_of(Subject::Mapping, refusal)) }
         Ok(m) => Ok(MappingFacts {
             width: m.width,
             bindings: m.bindings,

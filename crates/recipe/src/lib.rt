@@ -6,6 +6,7 @@ ghost use Rattle.recipe.specs.Asked as Q;
 ghost use Rattle.recipe.specs.Fields as F;
 
 // The target of a recipe from scratch.
+// Kept: the field's own number, as document 01 has it.
 pub const SCRATCH: u32 = 0;
 
 // The fields of a recipe word. `blank` is bit 4, which the layout wants zero.
@@ -65,6 +66,9 @@ pub fn unpack(word: u32) -> Fields
     }
 }
 
+#[tactic(auto, using(crate::proofs::Packing::joined))]
+// The word of a kind's number and fields.
+// Kept: a number for the kind, since each of the sixteen is packed back.
 pub fn pack(kind: u32, fields: Fields) -> u32
     requires { Q.Fit kind fields }
     ensures { result ≡ F.packed kind fields }

@@ -10,6 +10,7 @@ pub enum Subject {
 }
 
 // A refusal's number and place, as document 01 has them.
+// Kept: the number, which is what the second account is to tell without the library's enum.
 #[derive(Clone, Copy, PartialEq, Eq)]
 pub struct Refusal {
     pub subject: Subject,

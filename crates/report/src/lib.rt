@@ -8,34 +8,44 @@ ghost use Rattle.writer.specs.Write as W;
 ghost use Rattle.report.specs.Told as D;
 
 use bits::Ports;
-use words::{Refusal, Witness};
+use words::{Fault, Refusal, Witness};
 
 // The most values that come with an answer.
 const MOST_VALUES: usize = 4;
 
-// No refusal.
-// Kept: the C interface gives the number 0 where there is no refusal.
-pub const NONE: Refusal = Refusal {
-    number: words::NO_REFUSAL,
-    place: 0,
-};
-
-// A refusal, or NONE, and the values that come with the answer, with zeros past them.
+// The number of an answer's refusal, or 0, its place, and the values that come with the answer, with zeros past them.
+// Kept: the C interface gives numbers, and 0 where there is no refusal.
 #[derive(Clone, Copy)]
 pub struct Report {
-    pub refusal: Refusal,
+    pub number: u32,
+    pub place: usize,
     pub count: usize,
     pub values: [u64; MOST_VALUES],
 }
 
-// A refusal and one value.
-pub fn with_value(refusal: Refusal, value: u64) -> Report
-    ensures { result ≡ D.report_of (refused_with refusal.number refusal.place (value ∷ [])) }
+// No refusal, and no values.
+pub fn accepted() -> Report
+    ensures { result ≡ D.report_of (accepted []) }
 {
     Report {
-        refusal,
-        count: 1,
-        values: [value, 0, 0, 0],
+        number: 0,
+        place: 0,
+        count: 0,
+        values: [0; MOST_VALUES],
+    }
+}
+
+impl Report {
+    // The same report with one value.
+    pub fn with_value(self, value: u64) -> Report
+        ensures { result ≡ D.report_of (refused_with self.number self.place (value ∷ [])) }
+    {
+        Report {
+            number: self.number,
+            place: self.place,
+            count: 1,
+            values: [value, 0, 0, 0],
+        }
     }
 }
 
@@ -45,7 +55,8 @@ impl From<Refusal> for Report {
 
     fn from(refusal: Refusal) -> Report {
         Report {
-            refusal,
+            number: u32::from(refusal.fault),
+            place: refusal.place,
             count: 0,
             values: [0; MOST_VALUES],
         }
@@ -58,7 +69,8 @@ impl From<Ports> for Report {
 
     fn from(ports: Ports) -> Report {
         Report {
-            refusal: NONE,
+            number: 0,
+            place: 0,
             count: MOST_VALUES,
             values: [
                 ports.o0,
@@ -76,10 +88,8 @@ impl From<Witness> for Report {
 
     fn from(witness: Witness) -> Report {
         Report {
-            refusal: Refusal {
-                number: 10,
-                place: witness.function as usize,
-            },
+            number: u32::from(Fault::WrongRecipe),
+            place: witness.function as usize,
             count: MOST_VALUES,
             values: [
                 u64::from(witness.port),
@@ -106,10 +116,9 @@ pub fn tell(report: Report, place: &mut u64, out: &mut [u64]) -> u32
     requires { report.count ≤ length report.values }
     ensures { D.Told (D.paper report) result place.new out.old out.new }
 {
-    let refusal = report.refusal;
-    *place = refusal.place as u64;
+    *place = report.place as u64;
     let values = report.values;
     let count = report.count;
     put_values(&values[..count], out);
-    refusal.number
+    report.number
 }

@@ -1,5 +1,5 @@
 -- The bytes of words put one after the other: putting those that are left gives the whole file.
-use mathlib.Core.Path.{◌≡◌, refl, sym}
+use mathlib.Core.Path.{◌≡◌, sym}
 use mathlib.Core.List.{List, []}
 use Prim.Native.Nat.{ℕ, ◌+◌, ◌≤◌, ◌<◌}
 use native.Mathlib.Omega.{arith}
@@ -15,9 +15,6 @@ module _ (words out whole : List ℕ) (i at end : ℕ) (e : Puts out at (file_of
       → Puts after next (file_of (drop (i + 1) words)) whole end
   unfolding file_of
   one_filed bytes after next h b p = rest_puts (rw (drop-next words i h) at e) (rw b at p)
-
-pub whole_file : (words out : List ℕ) → Puts out 0 (file_of words) (sets out 0 (file_of words)) (length (file_of words))
-whole_file words out = record { ends = omega arith; put = refl }
 
 pub all_filed : (words start out : List ℕ) (i at : ℕ) → Puts out at (file_of (drop i words)) (sets start 0 (file_of words)) (length (file_of words))
     → length words ≤ i → Puts start 0 (file_of words) out at

@@ -12,6 +12,7 @@ use std::io::{Error, ErrorKind, Write};
 use std::str;
 
 // The bytes of a mapping's file.
+#[tactic(auto, using(crate::proofs::Filed::all_filed))]
 fn put_file(words: &[u32], out: &mut [u8]) -> usize
     requires { 4 * length words.now ≤ length out.old }
     ensures fits { result ≤ length out.old }

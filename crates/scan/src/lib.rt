@@ -5,7 +5,7 @@ ghost use Rattle.std.specs.Prelude.{◌≡◌, ◌≤◌, length};
 ghost use Rattle.sequence.specs.Limits.{most_job_words};
 ghost use Rattle.grammar.specs.Reading as R;
 
-use sequence::{File, START, State};
+use sequence::{File, State};
 use words::Refusal;
 
 // Word by word: the state after the last one, or the first refusal.
@@ -14,8 +14,7 @@ pub fn read_words(file: File, words: &[u32]) -> Result<State, Refusal>
     ensures { result ≡ R.reading file R.beginning 0 words.now }
 {
     let mut s = State {
-        stage: START,
-        function: alu::NO_FUNCTION,
+        last: None,
         sources: 0,
         targets: 0,
         rules: 0,
@@ -24,7 +23,7 @@ pub fn read_words(file: File, words: &[u32]) -> Result<State, Refusal>
     for (place, word) in words.iter().enumerate() {
         match grammar::pass(file, s, *word) {
             Ok(next) => s = next,
-            Err(number) => return Err(Refusal { number, place }),
+            Err(fault) => return Err(Refusal { fault, place }),
         }
     }
     Ok(s)

@@ -1,10 +1,11 @@
 // How many words of each kind a job and a mapping may have, and in which sequence: refusal 2, "Kind out of sequence or past its count".
 #![tactic(auto)]
 
-ghost use Rattle.std.specs.Prelude.{◌≡◌};
+ghost use Rattle.std.specs.Prelude.{◌≡◌, eqb};
+ghost use Rattle.words.specs.Kinds.{kind_number};
 ghost use Rattle.sequence.specs.Sequence as S;
 
-use words::{BINDING, GLUE, HEADER, PRICES, RULE, SOURCE, TARGET};
+use words::WordKind;
 
 // The most sources, targets and rules of a job, and the most bindings of a mapping.
 pub const MOST_SOURCES: usize = 27;
@@ -27,61 +28,79 @@ pub enum File {
     AsMapping,
 }
 
-// The stage of a file is the kind of its last word so far, or this one before the first.
-pub const START: u32 = 0;
+// The last word of a file so far: its kind, and the function by which it rises.
+#[derive(Clone, Copy)]
+pub struct Last {
+    pub kind: WordKind,
+    pub function: u32,
+}
 
-// What the words so far have shown: the stage, the function of the last word, and how many words of each kind there were.
+// What the words so far have shown: the last word, and how many words of each kind there were.
 #[derive(Clone, Copy)]
 pub struct State {
-    pub stage: u32,
-    pub function: u32,
+    pub last: Option<Last>,
     pub sources: u32,
     pub targets: u32,
     pub rules: u32,
     pub bindings: u32,
 }
 
-fn job_sequence(s: State, kind: u32) -> bool
-    ensures { result ≡ S.job_sequence s kind }
-{
-    let at = s.stage;
-    if kind == HEADER {
-        return at == START;
+impl State {
+    // Whether the last word so far is of this kind.
+    pub fn ends_in(self, kind: WordKind) -> bool
+        ensures { result ≡ eqb (S.stage_of self) (kind_number kind) }
+    {
+        match self.last {
+            Some(last) => last.kind == kind,
+            None => false,
+        }
     }
-    if kind == PRICES {
-        return at == HEADER;
-    }
-    if kind == SOURCE {
-        return ((at == PRICES) | (at == SOURCE)) & ((s.sources as usize) < MOST_SOURCES);
-    }
-    if kind == TARGET {
-        return ((at == SOURCE) | (at == TARGET)) & ((s.targets as usize) < MOST_TARGETS);
-    }
-    if kind == RULE {
-        return ((at == SOURCE) | (at == TARGET) | (at == RULE)) & ((s.rules as usize) < MOST_RULES);
-    }
-    false
 }
 
-fn mapping_sequence(s: State, kind: u32) -> bool
-    ensures { result ≡ S.mapping_sequence s kind }
+// May a word of this kind come next in a job?
+#[tactic(auto, unfolding(crate::specs::Sequence::job_sequence))]
+fn job_sequence(s: State, kind: WordKind) -> bool
+    ensures { result ≡ S.job_sequence s (kind_number kind) }
 {
-    let at = s.stage;
-    if kind == HEADER {
-        return at == START;
+    match kind {
+        WordKind::Header => s.last.is_none(),
+        WordKind::Prices => s.ends_in(WordKind::Header),
+        WordKind::Source => {
+            (s.ends_in(WordKind::Prices) | s.ends_in(WordKind::Source))
+                & ((s.sources as usize) < MOST_SOURCES)
+        }
+        WordKind::Target => {
+            (s.ends_in(WordKind::Source) | s.ends_in(WordKind::Target))
+                & ((s.targets as usize) < MOST_TARGETS)
+        }
+        WordKind::Rule => {
+            (s.ends_in(WordKind::Source) | s.ends_in(WordKind::Target) | s.ends_in(WordKind::Rule))
+                & ((s.rules as usize) < MOST_RULES)
+        }
+        WordKind::Binding | WordKind::Glue => false,
     }
-    if kind == BINDING {
-        return ((at == HEADER) | (at == BINDING)) & ((s.bindings as usize) < MOST_BINDINGS);
+}
+
+// May a word of this kind come next in a mapping?
+// Kept: two functions, as document 01 has a sequence for each file. One with the file in each arm would be no plainer.
+#[tactic(auto, unfolding(crate::specs::Sequence::mapping_sequence))]
+fn mapping_sequence(s: State, kind: WordKind) -> bool
+    ensures { result ≡ S.mapping_sequence s (kind_number kind) }
+{
+    match kind {
+        WordKind::Header => s.last.is_none(),
+        WordKind::Binding => {
+            (s.ends_in(WordKind::Header) | s.ends_in(WordKind::Binding))
+                & ((s.bindings as usize) < MOST_BINDINGS)
+        }
+        WordKind::Glue => s.ends_in(WordKind::Header) | s.ends_in(WordKind::Binding),
+        _ => false,
     }
-    if kind == GLUE {
-        return (at == HEADER) | (at == BINDING);
-    }
-    false
 }
 
 // May a word of this kind come next?
-pub fn in_sequence(file: File, s: State, kind: u32) -> bool
-    ensures { result ≡ S.in_sequence file s kind }
+pub fn in_sequence(file: File, s: State, kind: WordKind) -> bool
+    ensures { result ≡ S.in_sequence file s (kind_number kind) }
 {
     match file {
         File::AsJob => job_sequence(s, kind),

@@ -1,6 +1,7 @@
 -- What the types of the tables' fields say of any tables: so many entries in each, prices of 8 bits.
-use mathlib.Core.Path.{◌≡◌, sym}
-use mathlib.Core.List.{List}
+use mathlib.Core.Path.{◌≡◌, sym, ap, ◌∙◌}
+use mathlib.Core.Bool.{Bool}
+use mathlib.Core.List.{List, ◌∷◌, ◌++◌}
 use Prim.Native.Nat.{ℕ, ◌-◌, ◌≤◌}
 use native.Mathlib.Omega.{arith}
 use lib.ListN.{length, take, drop}
@@ -11,7 +12,9 @@ use denote.Struct.Declared.{row}
 use Rattle.words.proofs.Lists.{part_from}
 use Rattle.sequence.specs.Limits.{most_sources, most_targets}
 use Rattle.soundness.specs.Shape.{TablesShaped}
-use Rattle.soundness.specs.Sound.{sources_on, targets_on}
+use Rattle.soundness.specs.Sound.{sources_on, targets_on, terms_on, bound_sound}
+use Rattle.reader.specs.Job.{job_of}
+use Rattle.table.specs.Parts.{Terms}
 use Rattle.soundness.specs.declared.Tables.{Tables}
 use Rattle.soundness.specs.contracts.Tables.{the_type}
 
@@ -60,3 +63,22 @@ module _ (t : Tables) (h : TablesShaped t) where
 
     pub targets_few : length (targets_on t) ≤ most_targets
     targets_few = omega (arith, targets_taken)
+
+-- ---- what is held as the terms of tables
+
+module _ (t : Tables) (u : Terms) (e : u ≡ terms_on t) where
+  pub sources_held : TablesShaped t → t.nsources ≤ most_sources → length u.sources ≤ most_sources
+  sources_held h few = let z = ap (λ (x : Terms). length x.sources) e in omega (arith, sources_few t h few)
+
+  pub targets_held : TablesShaped t → t.ntargets ≤ most_targets → length u.targets ≤ most_targets
+  targets_held h few = let z = ap (λ (x : Terms). length x.targets) e in omega (arith, targets_few t h few)
+
+  pub sources_covered : (bound : List ℕ) → TablesShaped t → t.nsources ≤ most_sources → length bound ≡ most_sources → length u.sources ≤ length bound
+  sources_covered bound h few l = omega (arith, sources_held h few)
+
+  pub entries_held : (bound : List ℕ) (r : Bool) → r ≡ bound_sound u.width u.sources u.targets u.sources bound
+      → r ≡ bound_sound t.width (sources_on t) (targets_on t) (sources_on t) bound
+  entries_held bound r h = h ∙ ap (λ (x : Terms). bound_sound x.width x.sources x.targets x.sources bound) e
+
+  pub words_held : (header prices : ℕ) → job_of (header ∷ prices ∷ (u.sources ++ u.targets)) ≡ job_of (header ∷ prices ∷ (sources_on t ++ targets_on t))
+  words_held header prices = ap (λ (x : Terms). job_of (header ∷ prices ∷ (x.sources ++ x.targets))) e

@@ -7,11 +7,16 @@ use native.Mathlib.Omega.{arith}
 use lib.Bits.{bit_or}
 use lib.Dec.{eqb, ltb}
 use lib.ListN.{length, take, drop, get_or, drop_of_length-le}
-use borrow.Author.Tests.{eq-eqb, ne_eqb, eqb-true, lt-ltb, le-ltb, le-leb, ltb-false, not-true, not-false}
-use Rattle.std.specs.Prelude.{if◌then◌else◌, Result, Ok}
+use borrow.Author.Tests.{eq-eqb, ne_eqb, eqb-true, eqb-false, lt-ltb, le-ltb, le-leb, ltb-false, not-true, not-false}
+use Rattle.std.specs.Prelude.{if◌then◌else◌, Option, Some, None, is_some, Result, Ok}
+use Rattle.words.specs.declared.Fault.{Fault}
+use Rattle.words.specs.declared.Fault.TheVariants.{OutOfSequence}
 use Rattle.std.specs.List.{list_all}
 use Rattle.words.specs.Field.{kind_of, source_function, word_of}
-use Rattle.words.specs.Kinds.{HEADER, RULE}
+use Rattle.words.specs.Kinds.{HEADER, RULE, kind_number, kind_named}
+use Rattle.words.specs.declared.kind.WordKind.{WordKind}
+use Rattle.words.specs.declared.kind.WordKind.TheVariants.{Rule}
+use Rattle.words.proofs.Named.{named, no_kind, same_kind}
 use Rattle.words.proofs.Choices.{either}
 use Rattle.words.proofs.Fields.{laid, onto}
 use Rattle.words.proofs.Lists.{drop-next, part_from}
@@ -34,33 +39,47 @@ use Rattle.soundness.proofs.Shapes.{rest_of}
 
 -- ---- a rule's refusal
 
-module _ (w k : ℕ) (ek : k ≡ kind_of w) where
-  pub a_rule : (r : ℕ) → k ≡ RULE → r ≡ recipe_fault w → r ≡ rule_fault w
-  unfolding rule_fault
-  a_rule r h er = rw (eq-eqb (kind_of w) RULE (sym ek ∙ h)) er
+pub a_rule : (w : ℕ) (r : Option Fault) → kind_of w ≡ RULE → r ≡ recipe_fault w → r ≡ rule_fault w
+unfolding rule_fault
+a_rule w r h er = rw (eq-eqb (kind_of w) RULE h) er
 
-  pub no_rule_lem : (k ≡ RULE → ⊥) → 2 ≡ rule_fault w
-  unfolding rule_fault
-  no_rule_lem h = rw (ne_eqb (kind_of w) RULE (λ e. h (ek ∙ e))) refl
+other_kind : (w : ℕ) → (kind_of w ≡ RULE → ⊥) → Some OutOfSequence ≡ rule_fault w
+unfolding rule_fault
+other_kind w h = rw (ne_eqb (kind_of w) RULE h) refl
+
+module _ (w : ℕ) (k : WordKind) (e : kind_named (kind_of w) ≡ Some k) where
+  pub rule_named : (r : Option Fault) → k ≡ Rule → r ≡ recipe_fault w → r ≡ rule_fault w
+  rule_named r h er = a_rule w r (named (kind_of w) k e ∙ ap kind_number h) er
+
+  pub other_named : (k ≡ Rule → ⊥) → Some OutOfSequence ≡ rule_fault w
+  other_named h = other_kind w (λ p. h (same_kind k Rule (sym (named (kind_of w) k e) ∙ p)))
+
+pub unnamed_word : (w : ℕ) → kind_named (kind_of w) ≡ None → Some OutOfSequence ≡ rule_fault w
+unnamed_word w e = other_kind w (eqb-false (kind_of w) RULE (no_kind (kind_of w) e Rule))
+
+pub ruleset rule_faults = (rule_named, other_named, unnamed_word)
 
 -- ---- a recipe at a source
 
-module _ (n : ℕ) (ss ts : List ℕ) (s w x : ℕ) (ex : x ≡ rule_fault w) where
-  pub bad_rule : (x ≡ 0 → ⊥) → false ≡ bindable n ss ts s w
-  unfolding bindable
-  bad_rule h = rw (ne_eqb (rule_fault w) 0 (λ e. h (ex ∙ e))) refl
+module _ (n : ℕ) (ss ts : List ℕ) (s w : ℕ) (x : Option Fault) (ex : x ≡ rule_fault w) (y : Bool) (ey : y ≡ is_some x) where
+  known : is_some (rule_fault w) ≡ y
+  known = ap is_some (sym ex) ∙ sym ey
 
-  module _ (hx : x ≡ 0) (g f : ℕ) (eg : g ≡ source_of w) (ef : f ≡ source_function s) where
+  pub bad_rule : y ≡ true → false ≡ bindable n ss ts s w
+  unfolding bindable
+  bad_rule h = rw (known ∙ h) refl
+
+  module _ (hx : y ≡ false) (g f : ℕ) (eg : g ≡ source_of w) (ef : f ≡ source_function s) where
     pub other_source : (g ≡ f → ⊥) → false ≡ bindable n ss ts s w
     unfolding bindable
     other_source h =
-        rw (eq-eqb (rule_fault w) 0 (sym ex ∙ hx)) (rw (ne_eqb (source_of w) (source_function s) (λ e. h (eg ∙ e ∙ sym ef))) refl)
+        rw (known ∙ hx) (rw (ne_eqb (source_of w) (source_function s) (λ e. h (eg ∙ e ∙ sym ef))) refl)
 
     module _ (hs : g ≡ f) (t : Bool) (et : t ≡ has_target ts w) where
       by_target : bindable n ss ts s w ≡ (if not t then false else is_right (claim_in ss ts w) n)
       unfolding bindable
       by_target =
-          rw (eq-eqb (rule_fault w) 0 (sym ex ∙ hx))
+          rw (known ∙ hx)
           (rw (eq-eqb (source_of w) (source_function s) (sym eg ∙ hs ∙ ef))
           (ap (λ (z : Bool). if not z then false else is_right (claim_in ss ts w) n) (sym et)))
 

@@ -1,9 +1,10 @@
 -- Document 01, "Mapper and bench", and request #103: when a bench is sound. A bench is a job's tables, for each source in table order an
 -- entry for what is bound to it, and the count that it stores.
-use Rattle.std.specs.Prelude.{ℕ, ◌+◌, ◌*◌, ◌^◌, Bool, true, false, not, ◌&&◌, List, [], ◌∷◌, ◌++◌, eqb, ltb, take, drop, if◌then◌else◌, Result, Ok, Err}
+use Rattle.std.specs.Prelude.{ℕ, ◌+◌, ◌*◌, ◌^◌, Bool, true, false, not, ◌&&◌, List, [], ◌∷◌, ◌++◌, eqb, ltb, take, drop, if◌then◌else◌, Option, Some, is_some, Result, Ok, Err}
 use Rattle.words.specs.Field.{kind_of, source_function, word_of}
 use Rattle.words.specs.Kinds.{HEADER, PRICES, RULE}
-use Rattle.words.specs.Paper.{no_refusal}
+use Rattle.words.specs.declared.Fault.{Fault}
+use Rattle.words.specs.declared.Fault.TheVariants.{OutOfSequence}
 use Rattle.words.specs.declared.Prices.{Prices}
 use Rattle.alu.specs.Range.{is_width}
 use Rattle.recipe.specs.Fields.{source_of}
@@ -14,6 +15,7 @@ use Rattle.reader.specs.Job.{job_of}
 use Rattle.reader.specs.declared.Job.{Job}
 use Rattle.words.specs.declared.Refusal.{Refusal}
 use Rattle.table.specs.Table.{has_target}
+use Rattle.table.specs.Parts.{Terms}
 use Rattle.claims.specs.Claim.{claim_in}
 use Rattle.glue.specs.Glue.{glue}
 use Rattle.soundness.specs.declared.Tables.{Tables}
@@ -39,6 +41,9 @@ sources_on t = take t.nsources t.sources
 
 abbrev pub targets_on : Tables → List ℕ
 targets_on t = take t.ntargets t.targets
+
+abbrev pub terms_on : Tables → Terms
+terms_on t = record { width = t.width; prices = t.prices; sources = sources_on t; targets = targets_on t }
 
 -- ---- the tables
 
@@ -66,13 +71,13 @@ tables_sound t =
 -- ---- what is bound
 
 -- the refusal of a word as a rule: 2 for another kind, then 3, 5 and 6; or none
-unfoldable pub rule_fault : ℕ → ℕ
-rule_fault w = if not (eqb (kind_of w) RULE) then 2 else recipe_fault w
+unfoldable pub rule_fault : ℕ → Option Fault
+rule_fault w = if not (eqb (kind_of w) RULE) then Some OutOfSequence else recipe_fault w
 
 -- "a right kind 5 recipe that passes 3, 5 and 6, whose source it is, .. from a target of the job or from scratch"
 unfoldable pub bindable : ℕ → List ℕ → List ℕ → ℕ → ℕ → Bool
 bindable n sources targets s w =
-    if not (eqb (rule_fault w) no_refusal) then false
+    if is_some (rule_fault w) then false
     else if not (eqb (source_of w) (source_function s)) then false
     else if not (has_target targets w) then false
     else is_right (claim_in sources targets w) n

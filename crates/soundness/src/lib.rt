@@ -7,17 +7,22 @@ mod reading;
 
 ghost use Rattle.std.specs.Prelude.{◌≡◌, ◌≤◌, length};
 ghost use Rattle.bits.specs.Asked as Q;
+ghost use Rattle.sequence.specs.Limits.{most_sources, most_targets};
+ghost use Rattle.table.specs.Parts as T;
 ghost use Rattle.soundness.specs.Sound as S;
 
 pub use counting::glue_on;
 pub use reading::copy;
 use sequence::{MOST_SOURCES, MOST_TARGETS};
-use words::Prices;
+use table::Terms;
+use words::{Fault, Prices, WordKind};
 
 // What stands in an entry to which nothing is bound, and in those of a table past its words.
+// Kept: a bench is a value of words that callers hold, and document 01 says zeros there.
 pub const NOTHING: u32 = 0;
 
 // A job's width, prices and tables: so many of the source and target words are there, and NOTHING past them.
+// Kept: counts beside the tables. A bench is copied and compared whole, and no heap is a rule of the project.
 #[derive(Clone, Copy)]
 pub struct Tables {
     pub width: u32,
@@ -28,6 +33,21 @@ pub struct Tables {
     pub ntargets: u32,
 }
 
+impl Tables {
+    // The terms of the job.
+    pub fn terms(&self) -> Terms<'_>
+        requires { Q.Width self.now.width × (self.now.nsources ≤ most_sources) × (self.now.ntargets ≤ most_targets) }
+        ensures { T.terms_held result ≡ S.terms_on self.now }
+    {
+        Terms {
+            width: self.width,
+            prices: self.prices,
+            sources: &self.sources[..self.nsources as usize],
+            targets: &self.targets[..self.ntargets as usize],
+        }
+    }
+}
+
 // Whether nothing stands in these entries.
 fn is_empty(entries: &[u32]) -> bool
     ensures { result ≡ S.empty entries.now }
@@ -36,53 +56,55 @@ fn is_empty(entries: &[u32]) -> bool
 }
 
 // The refusal of a word as a rule: 2, 3, 5 or 6, or none.
-pub fn rule_fault(word: u32) -> u32
+#[tactic(auto, using(crate::proofs::Soundness::rule_faults))]
+pub fn rule_fault(word: u32) -> Option<Fault>
     ensures { result ≡ S.rule_fault word }
 {
-    if words::kind_of(word) != words::RULE {
-        return 2;
+    let Some(kind) = words::kind_of(word) else {
+        return Some(Fault::OutOfSequence);
+    };
+    match kind {
+        WordKind::Rule => layout::recipe_fault(word),
+        _ => Some(Fault::OutOfSequence),
     }
-    layout::recipe_fault(word)
 }
 
 // Whether a word may be bound to a source: a right rule of it, from scratch or from a target of the table.
-fn bindable(n: u32, sources: &[u32], targets: &[u32], source: u32, word: u32) -> bool
-    requires { Q.Width n }
-    ensures { result ≡ S.bindable n sources.now targets.now source word }
+fn bindable(terms: &Terms, source: u32, word: u32) -> bool
+    ensures { result ≡ S.bindable terms.now.width terms.now.sources.now terms.now.targets.now source word }
 {
-    if rule_fault(word) != words::NO_REFUSAL {
+    if rule_fault(word).is_some() {
         return false;
     }
     if recipe::source_of(word) != words::source_function(source) {
         return false;
     }
-    if !table::has_target(targets, word) {
+    if !terms.has_target(word) {
         return false;
     }
-    claims::is_right(sources, targets, word, n)
+    claims::is_right(terms, word)
 }
 
-fn entry_sound(n: u32, sources: &[u32], targets: &[u32], source: u32, word: u32) -> bool
-    requires { Q.Width n }
-    ensures { result ≡ S.entry_sound n sources.now targets.now source word }
+fn entry_sound(terms: &Terms, source: u32, word: u32) -> bool
+    ensures { result ≡ S.entry_sound terms.now.width terms.now.sources.now terms.now.targets.now source word }
 {
     if word == NOTHING {
         return true;
     }
-    bindable(n, sources, targets, source, word)
+    bindable(terms, source, word)
 }
 
 // Each source's entry, and nothing in the entries past them.
-fn bound_sound(n: u32, sources: &[u32], targets: &[u32], bound: &[u32]) -> bool
-    requires { Q.Width n × (length sources.now ≤ length bound.now) }
-    ensures { result ≡ S.bound_sound n sources.now targets.now sources.now bound.now }
+fn bound_sound(terms: &Terms, bound: &[u32]) -> bool
+    requires { length terms.now.sources.now ≤ length bound.now }
+    ensures { result ≡ S.bound_sound terms.now.width terms.now.sources.now terms.now.targets.now terms.now.sources.now bound.now }
 {
-    for (i, source) in sources.iter().enumerate() {
-        if !entry_sound(n, sources, targets, *source, bound[i]) {
+    for (i, source) in terms.sources.iter().enumerate() {
+        if !entry_sound(terms, *source, bound[i]) {
             return false;
         }
     }
-    is_empty(&bound[sources.len()..])
+    is_empty(&bound[terms.sources.len()..])
 }
 
 pub fn is_sound(tables: Tables, bound: [u32; MOST_SOURCES], glue: u32) -> bool
@@ -93,20 +115,13 @@ pub fn is_sound(tables: Tables, bound: [u32; MOST_SOURCES], glue: u32) -> bool
     }
     let sources = tables.sources;
     let targets = tables.targets;
-    let nsources = tables.nsources as usize;
-    let ntargets = tables.ntargets as usize;
-    if !is_empty(&sources[nsources..]) {
+    if !is_empty(&sources[tables.nsources as usize..]) {
         return false;
     }
-    if !is_empty(&targets[ntargets..]) {
+    if !is_empty(&targets[tables.ntargets as usize..]) {
         return false;
     }
-    if !bound_sound(
-        tables.width,
-        &sources[..nsources],
-        &targets[..ntargets],
-        &bound,
-    ) {
+    if !bound_sound(&tables.terms(), &bound) {
         return false;
     }
     glue == glue_on(tables, bound)

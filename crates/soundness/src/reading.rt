@@ -8,7 +8,7 @@ ghost use Rattle.soundness.specs.Sound as S;
 use crate::Tables;
 use reader::{Job, SOURCES_START};
 use sequence::{MOST_SOURCES, MOST_TARGETS};
-use words::{Prices, Refusal};
+use words::{Prices, Refusal, WordKind};
 
 // The most words of a job without rules.
 const MOST_WORDS: usize = SOURCES_START + MOST_SOURCES + MOST_TARGETS;
@@ -28,7 +28,7 @@ fn prices_word(prices: Prices) -> u32
     ensures { result ≡ S.prices_word prices }
 {
     words::word_of(
-        words::PRICES,
+        WordKind::Prices,
         ((prices.inverter as u32) << 16)
             | ((prices.gate as u32) << 8)
             | (prices.multiplexer as u32),
@@ -72,13 +72,10 @@ pub fn tables_sound(tables: Tables) -> bool
     if MOST_TARGETS < tables.ntargets as usize {
         return false;
     }
-    let header = words::word_of(words::HEADER, tables.width);
+    let header = words::word_of(WordKind::Header, tables.width);
     let given = tables.prices;
     let prices = prices_word(given);
-    let sources = tables.sources;
-    let targets = tables.targets;
-    let nsources = tables.nsources as usize;
-    let ntargets = tables.ntargets as usize;
-    let read = read_tables(header, prices, &sources[..nsources], &targets[..ntargets]);
+    let terms = tables.terms();
+    let read = read_tables(header, prices, terms.sources, terms.targets);
     holds(tables.nsources, tables.ntargets, read)
 }

@@ -1,9 +1,10 @@
 -- The parts of a job's and a mapping's words.
-use mathlib.Core.Path.{◌≡◌, refl, ap, ◌∙◌}
+use mathlib.Core.Path.{◌≡◌, ap, ◌∙◌}
 use mathlib.Core.List.{List}
 use Prim.Native.Nat.{ℕ, ◌+◌, ◌-◌, ◌≤◌}
 use native.Mathlib.Omega.{arith}
 use lib.ListN.{length, take, drop}
+use Rattle.bits.specs.Asked.{Width}
 use Rattle.reader.specs.Job.{WellFormedJob}
 use Rattle.reader.specs.Starts.{sources_start, targets_start, rules_start, bindings_start}
 use Rattle.reader.specs.Mapping.{WellFormedMapping}
@@ -12,22 +13,26 @@ use Rattle.reader.specs.declared.Mapping.{Mapping}
 use Rattle.wellformed.proofs.JobWords as jobs
 use Rattle.wellformed.proofs.MappingWords as mappings
 use Rattle.words.proofs.Lists.{part_from}
-use Rattle.table.specs.Parts.{sources_of, targets_of, rules_of, bindings_of}
+use Rattle.table.specs.Parts.{rules_of, bindings_of, terms_with, terms_of}
 
-module _ (ws : List ℕ) (j : Job) (e : WellFormedJob ws j) (t : ℕ) (et : t ≡ targets_start j) where
-  pub sources_within : t ≤ length ws
-  sources_within = omega (arith, (jobs.well_formed ws j e).size)
+module _ (ws : List ℕ) (j : Job) (e : WellFormedJob ws j) where
+  pub width_there : Width j.width
+  width_there = let f = jobs.well_formed ws j e in record { least = f.width_least; most = f.width_most }
 
-  pub sources_part : take (t - sources_start) (drop sources_start ws) ≡ sources_of ws j
-  sources_part = let n : t - sources_start ≡ j.sources = omega arith in ap (λ (x : ℕ). take x (drop sources_start ws)) n
+  module _ (t : ℕ) (et : t ≡ targets_start j) where
+    pub sources_within : t ≤ length ws
+    sources_within = omega (arith, (jobs.well_formed ws j e).size)
 
-  module _ (r : ℕ) (er : r ≡ rules_start j) where
-    pub targets_within : r ≤ length ws
-    targets_within = omega (arith, (jobs.well_formed ws j e).size)
+    pub targets_within : (r : ℕ) → r ≡ rules_start j → r ≤ length ws
+    targets_within r er = omega (arith, (jobs.well_formed ws j e).size)
 
-    pub targets_part : take (r - t) (drop t ws) ≡ targets_of ws j
-    targets_part =
-        let n : r - t ≡ j.targets = omega arith in rw (n, et) refl
+-- the terms of a job, from its parts
+pub terms_there : (ws : List ℕ) (j : Job) (t : ℕ) → t ≡ targets_start j → (r : ℕ) → r ≡ rules_start j
+    → terms_with j (take (t - sources_start) (drop sources_start ws)) (take (r - t) (drop t ws)) ≡ terms_of ws j
+terms_there ws j t et r er =
+    let n : t - sources_start ≡ j.sources = omega arith in
+    let m : r - t ≡ j.targets = omega arith in
+    λ i. terms_with j (take (n i) (drop sources_start ws)) (take (m i) (drop (et i) ws))
 
 module _ (ws : List ℕ) (j : Job) (e : WellFormedJob ws j) (r : ℕ) (er : r ≡ rules_start j) where
   pub rules_within : r ≤ length ws

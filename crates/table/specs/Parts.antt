@@ -5,6 +5,7 @@ use Rattle.words.specs.declared.Prices.{Prices}
 use Rattle.reader.specs.Starts.{sources_start, targets_start, rules_start, bindings_start}
 use Rattle.reader.specs.declared.Job.{Job}
 use Rattle.reader.specs.declared.Mapping.{Mapping}
+use Rattle.table.specs.declared.terms.Terms as held
 
 abbrev pub sources_of : List ℕ → Job → List ℕ
 sources_of ws job = take job.sources (drop sources_start ws)
@@ -25,6 +26,10 @@ pub record Terms : Type 0 where
   pub prices : Prices
   pub sources : List ℕ
   pub targets : List ℕ
+
+-- the terms that a value in the code holds
+abbrev pub terms_held : held.Terms → Terms
+terms_held t = record { width = t.width; prices = t.prices; sources = t.sources.now; targets = t.targets.now }
 
 abbrev pub terms_with : Job → List ℕ → List ℕ → Terms
 terms_with job sources targets = record { width = job.width; prices = job.prices; sources = sources; targets = targets }

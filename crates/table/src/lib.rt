@@ -1,31 +1,36 @@
-// The parts of a job and of a mapping, and what stands in a job's tables of source and target words.
+// The terms of a job, the parts of a job and of a mapping, and what stands in a job's tables of source and target words.
 #![tactic(auto)]
 
 mod parts;
+mod terms;
 
 ghost use Rattle.std.specs.Prelude.{◌≡◌};
 ghost use Rattle.table.specs.Table as T;
 
-pub use parts::{bindings_of, rules_of, sources_of, targets_of};
+pub use parts::{bindings_of, rules_of, terms_of};
+pub use terms::Terms;
 
-// Whether a recipe is from scratch or from a target of the job.
-pub fn has_target(targets: &[u32], word: u32) -> bool
-    ensures { result ≡ T.has_target targets.now word }
-{
-    let target = recipe::target_of(word);
-    recipe::from_scratch(word)
-        || targets
+impl Terms<'_> {
+    // Whether a recipe is from scratch or from a target of the job.
+    pub fn has_target(&self, word: u32) -> bool
+        ensures { result ≡ T.has_target self.now.targets.now word }
+    {
+        let target = recipe::target_of(word);
+        recipe::from_scratch(word)
+            || self
+                .targets
+                .iter()
+                .any(|entry| words::target_function(*entry) == target)
+    }
+
+    // Whether the source and the target function of a recipe are in the job.
+    pub fn in_job(&self, word: u32) -> bool
+        ensures { result ≡ T.in_job self.now.sources.now self.now.targets.now word }
+    {
+        let source = recipe::source_of(word);
+        self.sources
             .iter()
-            .any(|entry| words::target_function(*entry) == target)
-}
-
-// Whether the source and the target function of a recipe are in the job.
-pub fn in_job(sources: &[u32], targets: &[u32], word: u32) -> bool
-    ensures { result ≡ T.in_job sources.now targets.now word }
-{
-    let source = recipe::source_of(word);
-    sources
-        .iter()
-        .any(|entry| words::source_function(*entry) == source)
-        && has_target(targets, word)
+            .any(|entry| words::source_function(*entry) == source)
+            && self.has_target(word)
+    }
 }

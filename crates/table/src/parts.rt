@@ -4,26 +4,23 @@ ghost use Rattle.reader.specs.Job as J;
 ghost use Rattle.reader.specs.Mapping as M;
 ghost use Rattle.table.specs.Parts as P;
 
+use crate::Terms;
 use reader::{Job, Mapping};
 
-// The source words of a job.
-pub fn sources_of(words: &[u32], job: Job) -> &[u32]
+// The terms of a job that was read.
+pub fn terms_of(words: &[u32], job: Job) -> Terms<'_>
     requires { J.WellFormedJob words.now job }
-    ensures { result.now ≡ P.sources_of words.now job }
+    ensures { P.terms_held result ≡ P.terms_of words.now job }
 {
     let start = reader::SOURCES_START;
-    let end = reader::targets_start(job);
-    &words[start..end]
-}
-
-// Its target words.
-pub fn targets_of(words: &[u32], job: Job) -> &[u32]
-    requires { J.WellFormedJob words.now job }
-    ensures { result.now ≡ P.targets_of words.now job }
-{
-    let start = reader::targets_start(job);
-    let end = reader::rules_start(job);
-    &words[start..end]
+    let targets_start = reader::targets_start(job);
+    let rules_start = reader::rules_start(job);
+    Terms {
+        width: job.width,
+        prices: job.prices,
+        sources: &words[start..targets_start],
+        targets: &words[targets_start..rules_start],
+    }
 }
 
 // Its rules: the part that begins after its tables.

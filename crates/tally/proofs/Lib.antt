@@ -1,2 +1,1 @@
 pub mod Joining
-pub mod Lines

@@ -1,8 +1,10 @@
 // The glue count of the bindings that use a set: document 01, "Glue count", line by line.
 #![tactic(auto)]
 
-ghost use Rattle.std.specs.Prelude.{◌≡◌, ◌≤◌};
+ghost use Rattle.std.specs.Prelude.{◌≡◌, ◌-◌, ◌*◌, ◌≤◌, ◌<◌};
 ghost use Rattle.bits.specs.Asked as Q;
+ghost use Rattle.bits.specs.Bits as B;
+ghost use Rattle.glue.specs.Codes as C;
 ghost use Rattle.glue.specs.Glue as G;
 ghost use Rattle.tally.specs.Parts as P;
 
@@ -37,16 +39,25 @@ fn parts_of(usage: u64) -> Parts
     }
 }
 
+// A multiplexer of n bits for each code in use but one, of `size` codes from one code on.
+fn multiplexers(n: u32, codes: u64, from: u32, size: u32, prices: Prices) -> u32
+    requires { (n ≤ 64) × (from < 32) × (size ≤ 15) }
+    ensures { (result ≡ G.steps (G.distinct (B.bit codes) (C.codes from size)) * n * prices.multiplexer) × (result ≤ (size - 1) * n * 255) }
+{
+    amount_each(steps(distinct(codes, from, size)), n, prices.multiplexer)
+}
+
 // Left and right.
+#[tactic(auto, unfolding(glue::specs::Glue::wirings))]
 fn wirings(n: u32, prices: Prices, parts: Parts) -> u32
     requires { Q.Width n }
     ensures { (result ≡ G.wirings n prices (P.used parts)) × (result ≤ 163200) }
 {
-    amount_each(steps(distinct(parts.left, 0, 6)), n, prices.multiplexer)
-        + amount_each(steps(distinct(parts.right, 0, 6)), n, prices.multiplexer)
+    multiplexers(n, parts.left, 0, 6, prices) + multiplexers(n, parts.right, 0, 6, prices)
 }
 
 // NOT SI0 and NOT SI1, each once, whichever port uses it.
+#[tactic(auto, unfolding(glue::specs::Glue::complements))]
 fn complements(n: u32, prices: Prices, parts: Parts) -> u32
     requires { Q.Width n }
     ensures { (result ≡ G.complements n prices (P.used parts)) × (result ≤ 32640) }
@@ -56,13 +67,14 @@ fn complements(n: u32, prices: Prices, parts: Parts) -> u32
         + when(has(parts.left, 5) | has(parts.right, 5), inverters)
 }
 
+#[tactic(auto, unfolding(glue::specs::Glue::carry_in))]
 fn carry_in(prices: Prices, parts: Parts) -> u32
     ensures { (result ≡ G.carry_in prices (P.used parts)) × (result ≤ 1020) }
 {
-    amount(steps(distinct(parts.carry, 0, 4)), prices.multiplexer)
-        + when(has(parts.carry, 3), prices.inverter as u32)
+    multiplexers(1, parts.carry, 0, 4, prices) + when(has(parts.carry, 3), prices.inverter as u32)
 }
 
+#[tactic(auto, unfolding(glue::specs::Glue::main_output))]
 fn main_output(n: u32, prices: Prices, parts: Parts) -> u32
     requires { Q.Width n }
     ensures { (result ≡ G.main_output n prices (P.used parts)) × (result ≤ 48960) }
@@ -72,22 +84,23 @@ fn main_output(n: u32, prices: Prices, parts: Parts) -> u32
         + when(has(parts.main, 2), amount(n, prices.inverter))
 }
 
+#[tactic(auto, unfolding(glue::specs::Glue::carry_out))]
 fn carry_out(prices: Prices, parts: Parts) -> u32
     ensures { (result ≡ G.carry_out prices (P.used parts)) × (result ≤ 510) }
 {
-    amount(steps(distinct(parts.cout, 1, 2)), prices.multiplexer)
-        + when(has(parts.cout, 2), prices.inverter as u32)
+    multiplexers(1, parts.cout, 1, 2, prices) + when(has(parts.cout, 2), prices.inverter as u32)
 }
 
+#[tactic(auto, unfolding(glue::specs::Glue::comparison))]
 fn comparison(n: u32, prices: Prices, parts: Parts) -> u32
     requires { Q.Width n }
     ensures { (result ≡ G.comparison n prices (P.used parts)) × (result ≤ 153510) }
 {
-    amount(steps(distinct(parts.code, 1, 15)), prices.multiplexer)
-        + codes_count(n, prices, parts.code)
+    multiplexers(1, parts.code, 1, 15, prices) + codes_count(n, prices, parts.code)
 }
 
 // The gates of the minterms in use, and the complements that they read.
+#[tactic(auto, unfolding(glue::specs::Glue::scratch))]
 fn scratch(n: u32, prices: Prices, parts: Parts) -> u32
     requires { Q.Width n }
     ensures { (result ≡ G.scratch n prices (P.used parts)) × (result ≤ 212160) }
@@ -104,6 +117,7 @@ fn scratch(n: u32, prices: Prices, parts: Parts) -> u32
 }
 
 // The count of a set.
+#[tactic(auto, unfolding(crate::specs::Parts::set_count))]
 pub fn price(usage: u64, n: u32, prices: Prices) -> u32
     requires { Q.Width n }
     ensures { (result ≡ P.set_count n prices usage) × (result ≤ 612000) }

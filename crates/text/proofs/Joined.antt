@@ -5,7 +5,7 @@ use Prim.Native.Nat.{ℕ}
 use native.Mathlib.Omega.{arith}
 use lib.ListN.{length-append}
 use Rattle.words.proofs.Copies.{sets-append}
-use Rattle.text.specs.Text.{Puts, name_of, digits, digits_in, decimal}
+use Rattle.text.specs.Text.{Puts, name_of}
 
 pub after-put : {o p q xs ys : List ℕ} {a b c : ℕ} → Puts o a xs p b → Puts p b ys q c → Puts o a (xs ++ ys) q c
 after-put {o} {p} {q} {xs} {ys} {a} {b} {c} f g =
@@ -21,13 +21,6 @@ rest_puts {o} {p} {q} {xs} {ys} {a} {b} {c} f g =
       ends = omega (arith, f.ends, g.ends, length-append xs ys);
       put = f.put ∙ rw (g.put, g.ends) (sym (sets-append xs ys o a));
     }
-
--- ---- a number in decimal
-
-pub decimal-puts : (n k at end : ℕ) (out after : List ℕ) → k ≡ digits_in 20 n → Puts out at (digits 10 k n) after end
-    → Puts out at (decimal n) after end
-unfolding decimal
-decimal-puts n k at end out after e p = rw (← e) p
 
 pub named : (f g at end : ℕ) (out after : List ℕ) → f ≡ g → Puts out at (name_of f) after end → Puts out at (name_of g) after end
 named f g at end out after e p = rw (← e) p

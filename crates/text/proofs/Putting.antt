@@ -2,7 +2,6 @@
 use mathlib.Core.Path.{◌≡◌, refl, sym, ap, ◌∙◌}
 use mathlib.Core.List.{List, [], ◌∷◌, ◌++◌}
 use Prim.Native.Nat.{ℕ, zero, suc, ◌+◌, ◌-◌, ◌/◌, ◌%◌, ◌≤◌, ◌<◌}
-use native.Mathlib.Nat.{mod-lt}
 use native.Mathlib.Omega.{arith}
 use lib.ListN.{length, set, length-append}
 use lib.Seq.{sets, set_comm, take-length}
@@ -37,17 +36,11 @@ count_full i rest whole e h l =
 
 -- ---- digits
 
-pub digit_fits : (rest base : ℕ) → 2 ≤ base → base ≤ 16 → rest % base ≤ 15
-digit_fits rest base l h = let p : rest % base < base = mod-lt rest (omega arith) in omega arith
-
 pub digits_length : (base k n : ℕ) → length (digits base k n) ≡ k
 unfolding digits
 digits_length base zero n = refl
 digits_length base (suc k) n =
     length-append (digits base k (n / base)) (glyph (n % base) ∷ []) ∙ rw (digits_length base k (n / base)) (omega arith)
-
-pub digits_end : (base k n at : ℕ) → at + k ≡ at + length (digits base k n)
-digits_end base k n at = ap (λ (m : ℕ). at + m) (sym (digits_length base k n))
 
 -- a store past a run of stores may come first
 set-sets : (xs l : List ℕ) (i j x : ℕ) → i + length xs ≤ j → set (sets l i xs) j x ≡ sets (set l j x) i xs

@@ -5,6 +5,7 @@ ghost use Rattle.std.specs.Prelude.{◌≡◌, ◌+◌, ◌*◌, ◌≤◌, leng
 ghost use Rattle.text.specs.Text as T;
 
 // Puts bytes, and answers the position after them.
+#[tactic(auto, using(crate::proofs::Putting::copied))]
 pub fn put(bytes: &[u8], out: &mut [u8], at: usize) -> usize
     requires { at + length bytes.now ≤ length out.old }
     ensures text { T.Puts out.old at bytes.now out.new result }
@@ -15,6 +16,7 @@ pub fn put(bytes: &[u8], out: &mut [u8], at: usize) -> usize
 }
 
 // Puts the text of a table at an index; past the last there is none.
+#[tactic(auto, using(crate::proofs::Tables::entry_length))]
 pub fn put_entry(table: &[&str], index: usize, out: &mut [u8], at: usize) -> usize
     requires { at + T.longest (T.texts table.now) ≤ length out.old }
     ensures short { result ≤ at + T.longest (T.texts table.now) }
@@ -54,6 +56,7 @@ fn glyph(digit: u64) -> u8
 }
 
 // Puts the last k digits of a number in a base, the lowest first.
+#[tactic(auto, using(crate::proofs::Putting::one_digit))]
 pub fn put_digits(n: u64, base: u64, k: usize, out: &mut [u8], at: usize) -> usize
     requires { (at + k ≤ length out.old) × (2 ≤ base) × (base ≤ 16) }
     ensures short { result ≡ at + k }
@@ -68,6 +71,7 @@ pub fn put_digits(n: u64, base: u64, k: usize, out: &mut [u8], at: usize) -> usi
 }
 
 // How many decimal digits a number has.
+#[tactic(auto, using(crate::proofs::Putting::count_ends, crate::proofs::Putting::count_goes_on, crate::proofs::Putting::count_full))]
 fn digit_count(n: u64) -> usize
     ensures { (result ≡ T.digits_in 20 n) × (result ≤ 20) }
 {
@@ -82,6 +86,7 @@ fn digit_count(n: u64) -> usize
 }
 
 // Puts a number in decimal.
+#[tactic(auto, unfolding(crate::specs::Text::decimal))]
 fn put_decimal(n: u64, out: &mut [u8], at: usize) -> usize
     requires { at + 20 ≤ length out.old }
     ensures short { result ≤ at + 20 }

@@ -138,24 +138,6 @@ module _ (w : ℕ) where
 -- ---- how the code comes to a binding's set
 
 module _ (r : Fields) (w : ℕ) (e : r ≡ fields_of w) where
-  pub code_within : 28 + r.code < 64
-  code_within = rw e (omega (arith, field_lt w 0 4))
-
-  pub cout_within : 24 + r.cout < 64
-  cout_within = rw e (omega (arith, field_lt w 6 2))
-
-  pub main_within : 20 + r.main < 64
-  main_within = rw e (omega (arith, field_lt w 8 2))
-
-  pub carry_within : 16 + r.carry < 64
-  carry_within = rw e (omega (arith, field_lt w 10 2))
-
-  pub right_within : 8 + r.right < 64
-  right_within = rw e (omega (arith, field_lt w 12 3))
-
-  pub left_within : 0 + r.left < 64
-  left_within = rw e (omega (arith, field_lt w 15 3))
-
   -- codes of different ports joined add up
   pub joined_codes : (p q x y z u : ℕ) → p ≡ code_bit 28 r.code → q ≡ code_bit 24 r.cout → x ≡ code_bit 20 r.main
       → y ≡ code_bit 16 r.carry → z ≡ code_bit 8 r.right → u ≡ code_bit 0 r.left

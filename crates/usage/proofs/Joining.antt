@@ -1,14 +1,12 @@
 -- How the sets of bindings join, and how the code comes to them.
 use mathlib.Core.Path.{◌≡◌, refl, sym, ap, ap₂, ◌∙◌}
-use mathlib.Core.Bool.{Bool, true, false}
 use mathlib.Core.List.{List, [], ◌∷◌, ◌++◌}
 use Prim.Native.Nat.{ℕ, ◌+◌, ◌*◌, ◌/◌, ◌%◌, max}
 use native.Mathlib.Omega.{arith}
 use lib.Arith.{bin_ind}
-use lib.Bits.{bit_or, or_step, or_shr, or_comm, or_self, or_zero_r}
+use lib.Bits.{bit_or, or_step, or_shr, or_self, or_zero_r}
 use Rattle.std.specs.Prelude.{fold, if◌then◌else◌}
 use Rattle.words.specs.Field.{content_of}
-use Rattle.recipe.specs.Fields.{from_scratch, vector_of, fields_of}
 use Rattle.recipe.proofs.Content.{same_from_scratch, same_vector, same_fields}
 use Rattle.usage.specs.Sets.{target_usage, scratch_usage, usage_of, usage}
 
@@ -45,21 +43,7 @@ usage-one w = or_zero_r (usage_of w)
 pub usage-more : (ws : List ℕ) (w : ℕ) → usage (ws ++ w ∷ []) ≡ bit_or (usage ws) (usage_of w)
 usage-more ws w = usage-append ws (w ∷ []) ∙ ap (bit_or (usage ws)) (usage-one w)
 
--- the order does not matter
-pub usage-swap : (xs ys : List ℕ) → usage (xs ++ ys) ≡ usage (ys ++ xs)
-usage-swap xs ys = usage-append xs ys ∙ or_comm (usage xs) (usage ys) ∙ sym (usage-append ys xs)
-
--- a binding may stand anywhere
-pub usage-move : (xs ys : List ℕ) (w : ℕ) → usage (xs ++ w ∷ ys) ≡ usage (w ∷ xs ++ ys)
-unfolding usage
-usage-move xs ys w =
-    usage-append xs (w ∷ ys)
-    ∙ sym (or_assoc (usage xs) (usage_of w) (usage ys))
-    ∙ ap (λ (x : ℕ). bit_or x (usage ys)) (or_comm (usage xs) (usage_of w))
-    ∙ or_assoc (usage_of w) (usage xs) (usage ys)
-    ∙ ap (bit_or (usage_of w)) (sym (usage-append xs ys))
-
--- nor does it matter how often
+-- it does not matter how often one stands
 pub usage-twice : (ws : List ℕ) → usage (ws ++ ws) ≡ usage ws
 usage-twice ws = usage-append ws ws ∙ or_self (usage ws)
 
@@ -72,15 +56,6 @@ usage-content v w e =
     else target_usage (same_fields v w e i)
 
 -- ---- how the code comes to the set
-
-module _ (w r : ℕ) (b : Bool) (e : b ≡ from_scratch w) where
-  pub scratch-used : b ≡ true → r ≡ scratch_usage (vector_of w) → r ≡ usage_of w
-  unfolding usage_of
-  scratch-used z p = rw (sym e ∙ z) p
-
-  pub target_used : b ≡ false → r ≡ target_usage (fields_of w) → r ≡ usage_of w
-  unfolding usage_of
-  target_used z p = rw (sym e ∙ z) p
 
 folded : (ws : List ℕ) (s : ℕ) → fold (λ u w. bit_or u (usage_of w)) s ws ≡ bit_or s (usage ws)
 unfolding usage

@@ -15,6 +15,7 @@ fn code_bit(from: u32, code: u32) -> u64
 }
 
 // The codes of a binding with a target.
+#[tactic(auto, using(crate::proofs::Codes::joined_codes))]
 fn target_usage(word: u32) -> u64
     ensures { result ≡ S.target_usage (F.fields_of word) }
 {
@@ -28,6 +29,7 @@ fn target_usage(word: u32) -> u64
 }
 
 // LO and the minterms of a binding from scratch.
+#[tactic(auto, using(crate::proofs::Codes::joined_minterms))]
 fn scratch_usage(word: u32) -> u64
     ensures { result ≡ S.scratch_usage (F.vector_of word) }
 {
@@ -35,6 +37,7 @@ fn scratch_usage(word: u32) -> u64
 }
 
 // What one binding uses.
+#[tactic(auto, unfolding(crate::specs::Sets::usage_of))]
 pub fn usage_of(word: u32) -> u64
     ensures { result ≡ S.usage_of word }
 {

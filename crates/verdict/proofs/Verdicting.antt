@@ -3,24 +3,19 @@ use mathlib.Core.Path.{◌≡◌, refl, sym, ap, ap₂, ◌∙◌, subst}
 use Prim.Native.Nat.{ℕ, ◌^◌, ◌<◌}
 use mathlib.Core.Bool.{Bool, true, false, not, beq}
 use lib.Dec.{eqb}
-use borrow.Author.Tests.{eq-eqb, ne_eqb, eqb-true, not-true, not-false}
+use borrow.Author.Tests.{eq-eqb, eqb-true}
 use borrow.Author.Rules.{rules}
-use Rattle.std.specs.Prelude.{Option, Some, None, IsSome, if◌then◌else◌, Ok, Err}
-use Rattle.words.specs.Field.{kind_of}
-use Rattle.words.specs.Kinds.{is_recipe}
-use Rattle.words.specs.Paper.{refusal}
+use Rattle.std.specs.Prelude.{Option, Some, None, IsSome, if◌then◌else◌}
 use Rattle.words.specs.declared.Witness.{Witness}
 use Rattle.words.proofs.Choices.{beq-true, beq-refl, false_of}
-use Rattle.alu.specs.Range.{is_width}
 use Rattle.bits.specs.Asked.{Width, Operands}
 use Rattle.bits.specs.declared.Ports.{Ports}
-use Rattle.layout.specs.Layout.{recipe_fault}
 use Rattle.binding.specs.Binding.{side_shows, shows}
-use Rattle.binding.specs.Right.{Right, is_right, claim_of}
+use Rattle.binding.specs.Right.{Right, is_right}
 use Rattle.binding.specs.declared.Claim.{Claim}
 use Rattle.binding.proofs.Tests.{right_test}
 use Rattle.search.specs.Search.{Found}
-use Rattle.verdict.specs.Verdicts.{lowest_port, Says, judge_of, Judged}
+use Rattle.verdict.specs.Verdicts.{lowest_port, Says}
 use Rattle.search.specs.declared.Counterexample.{Counterexample}
 use Rattle.verdict.specs.declared.Verdict.{Verdict}
 use Rattle.verdict.specs.declared.Verdict.TheVariants.{Right as IsRight, Wrong}
@@ -110,32 +105,3 @@ module _ (c : Claim) (n : ℕ) where
     wrong_says x e =
         sym (false_of (is_right c n)
         (λ h. not_right x (subst (Says c n) e says) ((right_test c.source c.recipe n).0 h)))
-
--- ---- a recipe word handed in
-
-module _ (w n k : ℕ) (b : Bool) (ek : k ≡ kind_of w) (eb : b ≡ is_recipe k) where
-  kind_known : b ≡ is_recipe (kind_of w)
-  kind_known = eb ∙ ap is_recipe ek
-
-  pub no_recipe : not b ≡ true → Judged w n (Err (refusal 2 0))
-  unfolding judge_of
-  no_recipe h = rw (sym kind_known ∙ not-true b h) refl
-
-  module _ (hb : not b ≡ false) (f : ℕ) (ef : f ≡ recipe_fault w) where
-    pub bad_recipe : (f ≡ 0 → ⊥) → Judged w n (Err (refusal f 0))
-    unfolding judge_of
-    bad_recipe h =
-        rw (sym kind_known ∙ not-false b hb)
-        (rw (ne_eqb (recipe_fault w) 0 (λ z. h (ef ∙ z))) (ap (λ (x : ℕ). refusal x 0) ef))
-
-    module _ (hf : f ≡ 0) (c : Bool) (ec : c ≡ is_width n) where
-      pub bad_width : not c ≡ true → Judged w n (Err (refusal 3 1))
-      unfolding judge_of
-      bad_width h =
-          rw (sym kind_known ∙ not-false b hb) (rw (eq-eqb (recipe_fault w) 0 (sym ef ∙ hf)) (rw (sym ec ∙ not-true c h) refl))
-
-      pub decided : not c ≡ false → (m : Claim) (v : Verdict) → m ≡ claim_of w → Says m n v → Judged w n (Ok v)
-      unfolding judge_of
-      decided h m v em says =
-          rw (sym kind_known ∙ not-false b hb)
-          (rw (eq-eqb (recipe_fault w) 0 (sym ef ∙ hf)) (rw (sym ec ∙ not-false c h) (subst (λ (x : Claim). Says x n v) em says)))

@@ -3,8 +3,9 @@ use Rattle.std.specs.Prelude.{ℕ, ◌^◌, ◌<◌, ◌≡◌, not, [], ◌∷�
 use Rattle.std.specs.Bool.{beq}
 use Rattle.words.specs.Field.{kind_of}
 use Rattle.words.specs.Kinds.{is_recipe}
-use Rattle.words.specs.Paper.{Paper, refusal, no_refusal, accepted, refused_with, told}
+use Rattle.words.specs.Paper.{Paper, refusal, accepted, refused_with, told}
 use Rattle.words.specs.declared.Refusal.{Refusal}
+use Rattle.words.specs.declared.Fault.{Fault}
 use Rattle.words.specs.declared.Witness.{Witness}
 use Rattle.bits.specs.Bits.{num}
 use Rattle.alu.specs.Range.{is_width}
@@ -15,6 +16,7 @@ use Rattle.binding.specs.Right.{Right, claim_of}
 use Rattle.binding.specs.declared.Claim.{Claim}
 use Rattle.verdict.specs.declared.Verdict.{Verdict}
 use Rattle.verdict.specs.declared.Verdict.TheVariants.{Right as IsRight, Wrong}
+use Rattle.words.specs.declared.Fault.TheVariants.{NotLaidOut, OutOfSequence}
 
 -- "port (0 O0, 1 OCOUT, 2 OVF, 3 O1) ... Of the ports that differ there, the lowest"
 unfoldable pub lowest_port : Ports → Ports → Option ℕ
@@ -60,13 +62,16 @@ pub data Sentence : Type 0 where
   Refuses : Refusal → Sentence
   Decides : Claim → ℕ → Sentence
 
+-- the refusal of a word by itself, if it has one; else what is said without one
+abbrev pub unless : Option Fault → Sentence → Sentence
+unless (Some fault) next = Refuses (refusal fault 0)
+unless None next = next
+
 -- a kind that is neither a rule's nor a binding's: 2; then 3, 5 and 6 of the word, place 0; then the width, place 1
 unfoldable pub judge_of : ℕ → ℕ → Sentence
 judge_of w n =
-    if not (is_recipe (kind_of w)) then Refuses (refusal 2 0)
-    else if not (eqb (recipe_fault w) no_refusal) then Refuses (refusal (recipe_fault w) 0)
-    else if not (is_width n) then Refuses (refusal 3 1)
-    else Decides (claim_of w) n
+    if not (is_recipe (kind_of w)) then Refuses (refusal OutOfSequence 0)
+    else unless (recipe_fault w) (if not (is_width n) then Refuses (refusal NotLaidOut 1) else Decides (claim_of w) n)
 
 abbrev pub Passes : Sentence → Result Verdict Refusal → Type 0
 Passes (Refuses r) (Err q) = q ≡ r

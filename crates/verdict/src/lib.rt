@@ -8,9 +8,10 @@ ghost use Rattle.verdict.specs.Verdicts as D;
 
 use binding::Claim;
 use bits::Ports;
-use words::{Refusal, Witness};
+use words::{Fault, Refusal, Witness};
 
 // Right, or Wrong with function, port, both operands and carry.
+// Kept: document 01 names this form: "verdict enum: Right, or Wrong with its values".
 #[derive(Clone, Copy)]
 pub enum Verdict {
     Right,
@@ -70,25 +71,22 @@ pub fn is_right(claim: Claim, n: u32) -> bool
 }
 
 // Judges a recipe word and a width handed in by anybody: 2 for a kind that is no recipe's; then 3, 5 and 6 of the word, place 0; then 3 for the width, place 1.
+#[tactic(auto, using(alu::proofs::Shown::has_width), unfolding(crate::specs::Verdicts::judge_of))]
 pub fn judge(word: u32, width: u32) -> Result<Verdict, Refusal>
     ensures { D.Judged word width result }
 {
-    if !words::is_recipe(words::kind_of(word)) {
+    if !words::is_recipe(word) {
         return Err(Refusal {
-            number: 2,
+            fault: Fault::OutOfSequence,
             place: 0,
         });
     }
-    let fault = layout::recipe_fault(word);
-    if fault != words::NO_REFUSAL {
-        return Err(Refusal {
-            number: fault,
-            place: 0,
-        });
+    if let Some(fault) = layout::recipe_fault(word) {
+        return Err(Refusal { fault, place: 0 });
     }
     if !alu::is_width(width) {
         return Err(Refusal {
-            number: 3,
+            fault: Fault::NotLaidOut,
             place: 1,
         });
     }

@@ -20,7 +20,7 @@ fn group(refusal: Option<Refusal>) -> usize {
 
 // Whether a word taken apart and packed again is the same word.
 fn packs_back(word: u32) -> bool {
-    let kind = words::kind_of(word);
+    let kind = word >> 28;
     let fields = recipe::unpack(word);
     recipe::pack(kind, fields) == word
 }

@@ -1,6 +1,6 @@
 // One verdict of the judge, tried by the reference. A right one is tried at operands, all of them at small widths. A wrong one is tried
 // at its own operands, so it is borne out only if the recipe is wrong.
-use reference::answer::{Refusal, Subject, refused, wrong};
+use reference::answer::{Refusal, Subject, wrong};
 use reference::trial::{Witness, bears_out, is_right};
 use testing::say;
 use testing::tally::Tally;
@@ -8,17 +8,7 @@ use verdict::Verdict;
 
 // Whether a witness shows that a recipe is wrong at a width.
 fn is_shown(word: u32, n: u32, witness: words::Witness) -> bool {
-    bears_out(
-        word,
-        n,
-        Witness {
-            function: witness.function,
-            port: witness.port,
-            left: witness.left,
-            right: witness.right,
-            carry: witness.carry,
-        },
-    )
+    bears_out(word, n, told::witness_of(witness))
 }
 
 fn of_verdict(verdict: Verdict, word: u32, n: u32) -> Result<(), Refusal> {
@@ -37,7 +27,7 @@ pub fn judged(word: u32, n: u32) -> Result<(), Refusal> {
     let judgement = verdict::judge(word, n);
     match judgement {
         Ok(verdict) => of_verdict(verdict, word, n),
-        Err(refusal) => { Err(refused(Subject::Word, refusal.number, refusal.place)) }
+        Err(refusal) => { Err(told::refusal_of(Subject::Word, refusal)) }
     }
 }
 

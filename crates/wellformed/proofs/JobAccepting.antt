@@ -7,8 +7,9 @@ use native.Mathlib.Nat.{add-zero}
 use native.Mathlib.Omega.{arith}
 use lib.ListN.{length, drop, get_or, drop_of_length-le, length-append, get_or-append}
 use lib.Seq.{get_or-append-add}
-use Rattle.words.specs.Field.{field, kind_of, content_of}
+use Rattle.words.specs.Field.{field, content_of}
 use Rattle.words.specs.Kinds.{HEADER, PRICES, SOURCE, TARGET}
+use Rattle.words.specs.declared.kind.WordKind.TheVariants.{Source, Target}
 use Rattle.sequence.specs.Limits.{most_sources, most_targets}
 use Rattle.reader.specs.Starts.{rules_start}
 use Rattle.grammar.specs.Reading.{beginning, after, reading}
@@ -22,6 +23,7 @@ use Rattle.grammar.proofs.Steps.{first_of_kind}
 use Rattle.wellformed.proofs.Parts.{Entry, kind_of-laid, content_of-laid}
 use Rattle.wellformed.proofs.Headers.{the_width, the_book, fits_a_job}
 use Rattle.wellformed.proofs.JobWords.{JobFacts}
+use Rattle.reader.proofs.Limits.{some_words}
 use Rattle.reader.proofs.JobAnswers.{accepted}
 use Rattle.wellformed.proofs.MappingAccepting.{passes}
 use Rattle.wellformed.proofs.JobParts.{Reaches, InSources, InTargets, InRules, free_header, free_prices, through_sources, through_targets, through_rules}
@@ -34,7 +36,7 @@ module _ (ws : List ℕ) (job : Job) (q : JobFacts ws job) where
       let p = get_or ws 1 0 in
       let k = q.prices_kind in
       let a = passes AsJob ws beginning 0 (omega (arith, q.size)) (free_header beginning h refl q.header_kind (fits_a_job h job.width job.book q.header q.width_least q.width_most)) in
-      let b = passes AsJob ws (after beginning h) 1 (omega (arith, q.size)) (free_prices (after beginning h) p q.header_kind k (omega arith)) in
+      let b = passes AsJob ws (after beginning h) 1 (omega (arith, q.size)) (free_prices (after beginning h) p (rw q.header_kind refl) k (omega arith)) in
       record {
         end = after (after beginning h) p;
         read = a ∙ b;
@@ -45,7 +47,7 @@ module _ (ws : List ℕ) (job : Job) (q : JobFacts ws job) where
           sources = rw (k, q.header_kind) refl;
           targets = rw (k, q.header_kind) refl;
           rules = rw (k, q.header_kind) refl;
-          order = λ v kv _. sym (first_of_kind (after (after beginning h) p) v (kind_of v) refl (λ e. omega arith) (λ e. omega arith));
+          order = λ v kv _. sym (first_of_kind (after (after beginning h) p) v Source kv (rw k (λ e. omega arith)));
         };
       }
 
@@ -58,7 +60,7 @@ module _ (ws : List ℕ) (job : Job) (q : JobFacts ws job) where
         sources = r.sources;
         targets = r.targets;
         rules = r.rules;
-        order = λ v kv _. sym (first_of_kind s v (kind_of v) refl (λ e. omega arith) (λ e. omega (arith, r.most)));
+        order = λ v kv _. sym (first_of_kind s v Target kv (λ e. omega (arith, r.most)));
       }
 
   to_rules : (s : State) → InTargets ws job.sources job.targets s → InRules job.sources job.targets 0 s
@@ -72,13 +74,14 @@ module _ (ws : List ℕ) (job : Job) (q : JobFacts ws job) where
       let d = through_rules ws job q c.end (to_rules c.end c.holds) in
       let z : drop (rules_start job + job.rules) ws ≡ [] = drop_of_length-le ws {i = rules_start job + job.rules} (omega (arith, q.size)) in
       let read = a.read ∙ b.read ∙ c.read ∙ d.read ∙ ap (reading AsJob d.end (rules_start job + job.rules)) z in
+      let words = some_words AsJob ws (omega (arith, q.size)) (omega (arith, q.size)) ∙ read in
       let width = sym (the_width (get_or ws 0 0) job.width job.book q.header q.width_least q.width_most) in
       let book = sym (the_book (get_or ws 0 0) job.width job.book q.header q.width_least q.width_most) in
       let inverter : job.prices.inverter ≡ field (get_or ws 1 0) 16 8 = omega (arith, q.prices) in
       let gate : job.prices.gate ≡ field (get_or ws 1 0) 8 8 = omega (arith, q.prices) in
       let multiplexer : job.prices.multiplexer ≡ field (get_or ws 1 0) 0 8 = omega (arith, q.prices) in
       sym
-      (accepted ws (Ok d.end) (sym read) (omega (arith, q.size)) (omega (arith, q.size)) d.end refl (omega (arith, d.holds.sources, q.sources_least)) job
+      (accepted ws (Ok d.end) (sym words) d.end refl (omega (arith, d.holds.sources, q.sources_least)) job
       (λ x. record {
         width = width x;
         prices = record { inverter = inverter x; gate = gate x; multiplexer = multiplexer x };

@@ -1,28 +1,29 @@
 -- The parts of a job, read one after the other: words that hold what an accepted job's words hold are passed over.
 use mathlib.Core.Path.{◌≡◌, refl, sym, ap, subst, ◌∙◌}
-use mathlib.Core.Bool.{Bool, true, false, ◌||◌}
+use mathlib.Core.Bool.{true, ◌||◌}
 use mathlib.Core.List.{List}
 use Prim.Native.Nat.{ℕ, zero, suc, ◌+◌, ◌<◌, ◌≤◌, ◌^◌}
 use native.Mathlib.Nat.{add-zero}
 use native.Mathlib.Omega.{arith}
-use native.Mathlib.Decide.{dec_lt}
 use lib.Dec.{eqb}
 use lib.ListN.{length, drop, get_or}
-use borrow.Author.Tests.{eq-eqb, ne_eqb, lt-ltb}
+use borrow.Author.Tests.{lt-ltb}
 use Rattle.words.specs.Field.{kind_of, content_of}
 use Rattle.words.proofs.Choices.{and_join}
-use Rattle.words.specs.Kinds.{HEADER, PRICES, SOURCE, TARGET, RULE}
+use Rattle.words.specs.Kinds.{HEADER, PRICES, SOURCE, TARGET, RULE, kind_number, is_recipe}
+use Rattle.words.specs.declared.kind.WordKind.{WordKind}
+use Rattle.words.specs.declared.kind.WordKind.TheVariants.{Header, Prices, Source, Target, Rule}
 use Rattle.sequence.specs.Limits.{most_sources, most_targets, most_rules}
 use Rattle.reader.specs.Starts.{targets_start, rules_start}
-use Rattle.sequence.specs.Sequence.{job_sequence, in_sequence}
+use Rattle.sequence.specs.Sequence.{stage_of, job_sequence, in_sequence}
 use Rattle.grammar.specs.Reading.{header_fits, rises, after, function_in, reading}
 use Rattle.sequence.specs.declared.File.TheVariants.{AsJob}
 use Rattle.sequence.specs.declared.State.{State}
 use Rattle.reader.specs.declared.Job.{Job}
-use Rattle.grammar.proofs.Steps.{header_fits_lem, prices_fit_lem, source_fits_lem, target_fits_lem, recipe_fits, no_order, next_of_kind, first_of_kind}
+use Rattle.grammar.proofs.Steps.{by_kind, no_order, first_of_kind}
 use Rattle.wellformed.proofs.Parts.{Entry, RecipeWord}
 use Rattle.grammar.proofs.Faultless.{Faultless}
-use Rattle.wellformed.proofs.Words.{is_function_lem, no_outputs, recipe_outputs, function_of-source, function_of-target}
+use Rattle.wellformed.proofs.Words.{is_function_lem, no_outputs, recipe_outputs, function_of-source, function_of-target, rises_above}
 use Rattle.wellformed.proofs.JobWords.{JobFacts}
 use Rattle.wellformed.proofs.MappingAccepting.{passes}
 
@@ -30,88 +31,63 @@ use Rattle.wellformed.proofs.MappingAccepting.{passes}
 
 -- a stage that is one of two or of three
 one_of_two : (k a : ℕ) → a ≤ k → k ≤ a + 1 → eqb k a || eqb k (a + 1) ≡ true
-one_of_two k a g h =
-    elim (dec_lt a k) [
-      | yes l ↦ rw (ne_eqb k a (λ e. omega arith)) (eq-eqb k (a + 1) (omega arith))
-      | no l ↦ rw (eq-eqb k a (omega arith)) refl
-    ]
+one_of_two k a g h = grind arith
 
 one_of_three : (k : ℕ) → SOURCE ≤ k → k ≤ RULE → eqb k SOURCE || eqb k TARGET || eqb k RULE ≡ true
-one_of_three k g h =
-    elim (dec_lt TARGET k) [
-      | yes l ↦ or_last (eqb k SOURCE || eqb k TARGET) (eqb k RULE) (eq-eqb k RULE (omega arith))
-      | no l ↦ or_first (eqb k SOURCE || eqb k TARGET) (eqb k RULE) (one_of_two k SOURCE g (omega arith))
-    ]
-  where
-    or_last : (a b : Bool) → b ≡ true → a || b ≡ true
-    or_last true b e = refl
-    or_last false b e = e
-
-    or_first : (a b : Bool) → a ≡ true → a || b ≡ true
-    or_first a b e = rw e refl
+one_of_three k g h = grind arith
 
 module _ (s : State) (w : ℕ) where
-  pub free_header : s.stage ≡ 0 → kind_of w ≡ HEADER → header_fits AsJob w ≡ true → Faultless AsJob s w
-  unfolding in_sequence job_sequence
+  pub free_header : stage_of s ≡ 0 → kind_of w ≡ HEADER → header_fits AsJob w ≡ true → Faultless AsJob s w
+  unfolding in_sequence job_sequence is_recipe
   free_header z k h =
       record {
         in_sequence_lem = rw (k, z) refl;
-        layout = sym (header_fits_lem AsJob w (kind_of w) (content_of w) refl refl true k (sym h));
-        order = sym (first_of_kind s w (kind_of w) refl (λ e. omega arith) (λ e. omega arith));
-        outputs = no_outputs w HEADER k (λ e. omega arith) (λ e. omega arith);
+        layout = sym (by_kind AsJob w Header k) ∙ h;
+        order = sym (first_of_kind s w Header k (λ e. omega arith));
+        outputs = no_outputs w HEADER k refl;
       }
 
-  pub free_prices : s.stage ≡ HEADER → kind_of w ≡ PRICES → content_of w < 2 ^ 24 → Faultless AsJob s w
-  unfolding in_sequence job_sequence
+  pub free_prices : stage_of s ≡ HEADER → kind_of w ≡ PRICES → content_of w < 2 ^ 24 → Faultless AsJob s w
+  unfolding in_sequence job_sequence is_recipe
   free_prices z k g =
       record {
         in_sequence_lem = rw (k, z) refl;
-        layout =
-            sym (prices_fit_lem AsJob w (kind_of w) (content_of w) refl refl (λ e. omega arith) k) ∙ lt-ltb (content_of w) (2 ^ 24) g;
-        order = sym (first_of_kind s w (kind_of w) refl (λ e. omega arith) (λ e. omega arith));
-        outputs = no_outputs w PRICES k (λ e. omega arith) (λ e. omega arith);
+        layout = sym (by_kind AsJob w Prices k) ∙ lt-ltb (content_of w) (2 ^ 24) g;
+        order = sym (first_of_kind s w Prices k (λ e. omega arith));
+        outputs = no_outputs w PRICES k refl;
       }
 
-  free_source : PRICES ≤ s.stage → s.stage ≤ SOURCE → s.sources < most_sources → Entry SOURCE w → rises s w ≡ true → Faultless AsJob s w
-  unfolding in_sequence job_sequence
+  free_source : PRICES ≤ stage_of s → stage_of s ≤ SOURCE → s.sources < most_sources → Entry SOURCE w → rises s w ≡ true → Faultless AsJob s w
+  unfolding in_sequence job_sequence is_recipe
   free_source a b few r order =
       let k = r.kind_is in
       record {
-        in_sequence_lem = rw k (and_join (one_of_two s.stage PRICES a b) (lt-ltb s.sources most_sources few));
-        layout =
-            sym
-            (source_fits_lem AsJob w (kind_of w) (content_of w) refl refl (λ e. omega arith) (λ e. omega arith) true k
-            (sym (is_function_lem (content_of w) r.least r.most)));
+        in_sequence_lem = rw k (and_join (one_of_two (stage_of s) PRICES a b) (lt-ltb s.sources most_sources few));
+        layout = sym (by_kind AsJob w Source k) ∙ is_function_lem (content_of w) r.least r.most;
         order = order;
-        outputs = no_outputs w SOURCE k (λ e. omega arith) (λ e. omega arith);
+        outputs = no_outputs w SOURCE k refl;
       }
 
-  free_target : SOURCE ≤ s.stage → s.stage ≤ TARGET → s.targets < most_targets → Entry TARGET w → rises s w ≡ true → Faultless AsJob s w
-  unfolding in_sequence job_sequence
+  free_target : SOURCE ≤ stage_of s → stage_of s ≤ TARGET → s.targets < most_targets → Entry TARGET w → rises s w ≡ true → Faultless AsJob s w
+  unfolding in_sequence job_sequence is_recipe
   free_target a b few r order =
       let k = r.kind_is in
       record {
-        in_sequence_lem = rw k (and_join (one_of_two s.stage SOURCE a b) (lt-ltb s.targets most_targets few));
-        layout =
-            sym
-            (target_fits_lem AsJob w (kind_of w) (content_of w) refl refl (λ e. omega arith) (λ e. omega arith) (λ e. omega arith) true k
-            (sym (is_function_lem (content_of w) r.least r.most)));
+        in_sequence_lem = rw k (and_join (one_of_two (stage_of s) SOURCE a b) (lt-ltb s.targets most_targets few));
+        layout = sym (by_kind AsJob w Target k) ∙ is_function_lem (content_of w) r.least r.most;
         order = order;
-        outputs = no_outputs w TARGET k (λ e. omega arith) (λ e. omega arith);
+        outputs = no_outputs w TARGET k refl;
       }
 
-  free_rule : SOURCE ≤ s.stage → s.stage ≤ RULE → s.rules < most_rules → RecipeWord RULE w → Faultless AsJob s w
-  unfolding in_sequence job_sequence
+  free_rule : SOURCE ≤ stage_of s → stage_of s ≤ RULE → s.rules < most_rules → RecipeWord RULE w → Faultless AsJob s w
+  unfolding in_sequence job_sequence is_recipe
   free_rule a b few r =
       let k = r.kind_is in
       let f = recipe_outputs w r.no_fault in
       record {
-        in_sequence_lem = rw k (and_join (one_of_three s.stage a b) (lt-ltb s.rules most_rules few));
-        layout =
-            sym
-            (recipe_fits AsJob w (kind_of w) (content_of w) refl refl (λ e. omega arith) (λ e. omega arith) (λ e. omega arith)
-            (λ e. omega arith) true (λ e. omega arith) (sym f.laid_out_lem));
-        order = sym (no_order s w (kind_of w) refl k);
+        in_sequence_lem = rw k (and_join (one_of_three (stage_of s) a b) (lt-ltb s.rules most_rules few));
+        layout = sym (by_kind AsJob w Rule k) ∙ f.laid_out_lem;
+        order = sym (no_order s w Rule k refl);
         outputs = λ _. (f.driven, f.exact);
       }
 
@@ -155,25 +131,25 @@ Order ws kind start j s =
     (w : ℕ) → kind_of w ≡ kind → (1 ≤ j → (p : ℕ) → p + 1 ≡ start + j → function_in (get_or ws p 0) < function_in w) → rises s w ≡ true
 
 pub record InSources (ws : List ℕ) (j : ℕ) (s : State) : Type 0 where
-  pub least : PRICES ≤ s.stage
-  pub most : s.stage ≤ SOURCE
-  pub begun : 1 ≤ j → SOURCE ≤ s.stage
+  pub least : PRICES ≤ stage_of s
+  pub most : stage_of s ≤ SOURCE
+  pub begun : 1 ≤ j → SOURCE ≤ stage_of s
   pub sources : s.sources ≡ j
   pub targets : s.targets ≡ 0
   pub rules : s.rules ≡ 0
   pub order : Order ws SOURCE 2 j s
 
 pub record InTargets (ws : List ℕ) (n j : ℕ) (s : State) : Type 0 where
-  pub least : SOURCE ≤ s.stage
-  pub most : s.stage ≤ TARGET
+  pub least : SOURCE ≤ stage_of s
+  pub most : stage_of s ≤ TARGET
   pub sources : s.sources ≡ n
   pub targets : s.targets ≡ j
   pub rules : s.rules ≡ 0
   pub order : Order ws TARGET (2 + n) j s
 
 pub record InRules (n m j : ℕ) (s : State) : Type 0 where
-  pub least : SOURCE ≤ s.stage
-  pub most : s.stage ≤ RULE
+  pub least : SOURCE ≤ stage_of s
+  pub most : stage_of s ≤ RULE
   pub sources : s.sources ≡ n
   pub targets : s.targets ≡ m
   pub rules : s.rules ≡ j
@@ -198,12 +174,10 @@ module _ (ws : List ℕ) (job : Job) (q : JobFacts ws job) where
       ))
 
   -- the word before is the last of its part
-  next_above : (k start j : ℕ) (s : State) → (k ≡ RULE → ⊥) → kind_of (get_or ws (start + j) 0) ≡ k
-      → Order ws k start (j + 1) (after s (get_or ws (start + j) 0))
+  next_above : (k : WordKind) (start j : ℕ) (s : State) → (k ≡ Rule → ⊥) → kind_of (get_or ws (start + j) 0) ≡ kind_number k
+      → Order ws (kind_number k) start (j + 1) (after s (get_or ws (start + j) 0))
   next_above k start j s other e v kv above =
-      let w = get_or ws (start + j) 0 in
-      sym (next_of_kind (after s w) v (kind_of v) refl (λ z. other (sym kv ∙ z)) (function_in v) (e ∙ sym kv) refl)
-      ∙ lt-ltb (function_in w) (function_in v) (above (omega arith) (start + j) (omega arith))
+      rises_above s (get_or ws (start + j) 0) k e v kv other (above (omega arith) (start + j) (omega arith))
 
   pub through_sources : (s : State) → InSources ws 0 s → Reaches ws (InSources ws job.sources) s 2 (targets_start job)
   through_sources s p =
@@ -219,7 +193,7 @@ module _ (ws : List ℕ) (job : Job) (q : JobFacts ws job) where
         sources = rw k (ap (λ (x : ℕ). x + 1) r.sources);
         targets = rw k r.targets;
         rules = rw k r.rules;
-        order = next_above SOURCE 2 j t (λ e. omega arith) k;
+        order = next_above Source 2 j t (λ e. cc) k;
       })
       s p
 
@@ -237,7 +211,7 @@ module _ (ws : List ℕ) (job : Job) (q : JobFacts ws job) where
         sources = rw k r.sources;
         targets = rw k (ap (λ (x : ℕ). x + 1) r.targets);
         rules = rw k r.rules;
-        order = next_above TARGET (targets_start job) j t (λ e. omega arith) k;
+        order = next_above Target (targets_start job) j t (λ e. cc) k;
       })
       s p
 

@@ -10,32 +10,35 @@ use Rattle.words.specs.Field.{field, kind_of, content_of}
 use Rattle.words.proofs.Fields.{field_lt}
 use Rattle.words.proofs.Choices.{either}
 use Rattle.words.specs.Kinds.{HEADER, PRICES, SOURCE, TARGET, RULE}
+use Rattle.words.specs.declared.kind.WordKind.TheVariants.{Source, Target}
 use Rattle.words.specs.declared.Refusal.{Refusal}
 use Rattle.bits.specs.Bits.{num}
 use Rattle.sequence.specs.Limits.{most_sources, most_targets, most_rules, most_job_words}
 use Rattle.reader.specs.Starts.{sources_start, targets_start, rules_start}
-use Rattle.sequence.specs.Sequence.{in_sequence}
+use Rattle.reader.specs.Words.{words_read}
+use Rattle.sequence.specs.Sequence.{stage_of, in_sequence}
 use Rattle.grammar.specs.Reading.{beginning, noted, after, function_in, reading}
 use Rattle.reader.specs.Job.{job_facts, job_ended, job_of, WellFormedJob}
 use Rattle.sequence.specs.declared.File.TheVariants.{AsJob}
 use Rattle.sequence.specs.declared.State.{State}
 use Rattle.std.specs.Prelude.{Result, Ok, Err}
 use Rattle.reader.specs.declared.Job.{Job}
+use Rattle.reader.proofs.Limits.{were_read}
 use Rattle.wellformed.proofs.Parts.{Each, Rising, Entry, RecipeWord, each_none, each_more, rising_none, rising_more, rising_as}
 use Rattle.grammar.proofs.Faultless.{Faultless, passed}
 use Rattle.grammar.proofs.Stages.{by_kind}
 use Rattle.wellformed.proofs.Headers.{header_whole}
-use Rattle.wellformed.proofs.Words.{Last, HeaderFirst, header_first, last_more, prices_range, source_entry, target_entry, recipe_word, function_of-source, function_of-target, risen}
+use Rattle.wellformed.proofs.Words.{Last, HeaderFirst, header_first, last_more, prices_range, source_entry, target_entry, rule_word, function_of-source, function_of-target, risen}
 
 -- ---- what the words so far hold
 
 -- How many there were of each kind. Sources are counted only once their kind has been reached (27 * 0 before), and so on.
 record Counts (s : State) (i : ℕ) : Type 0 where
-  passed : min s.stage 2 + s.sources + s.targets + s.rules ≡ i
-  sources_begun : s.sources ≤ most_sources * (s.stage - PRICES)
-  targets_begun : s.targets ≤ most_targets * (s.stage - SOURCE)
-  rules_begun : s.rules ≤ most_rules * (s.stage - TARGET)
-  a_source : min (s.stage - PRICES) 1 ≤ s.sources
+  passed : min (stage_of s) 2 + s.sources + s.targets + s.rules ≡ i
+  sources_begun : s.sources ≤ most_sources * (stage_of s - PRICES)
+  targets_begun : s.targets ≤ most_targets * (stage_of s - SOURCE)
+  rules_begun : s.rules ≤ most_rules * (stage_of s - TARGET)
+  a_source : min (stage_of s - PRICES) 1 ≤ s.sources
   few_sources : s.sources ≤ most_sources
   few_targets : s.targets ≤ most_targets
   few_rules : s.rules ≤ most_rules
@@ -44,8 +47,8 @@ record Counts (s : State) (i : ℕ) : Type 0 where
 record Held (ws : List ℕ) (s : State) (i : ℕ) : Type 0 where
   counts : Counts s i
   last : Last ws s i
-  header : 1 ≤ s.stage → HeaderFirst AsJob ws
-  prices : 2 ≤ s.stage → (kind_of (get_or ws 1 0) ≡ PRICES) × (content_of (get_or ws 1 0) < 2 ^ 24)
+  header : 1 ≤ stage_of s → HeaderFirst AsJob ws
+  prices : 2 ≤ stage_of s → (kind_of (get_or ws 1 0) ≡ PRICES) × (content_of (get_or ws 1 0) < 2 ^ 24)
   source_words : Each (Entry SOURCE) ws 2 s.sources
   sources_rise : Rising function_in ws 2 s.sources
   target_words : Each (Entry TARGET) ws (2 + s.sources) s.targets
@@ -72,7 +75,7 @@ module _ (ws : List ℕ) where
     abbrev Keeps : ℕ → Type 0
     Keeps k = kind_of (get_or ws i 0) ≡ k → Held ws (noted k (function_in (get_or ws i 0)) s) (i + 1)
 
-    header_more : s.stage ≡ 0 → Keeps HEADER
+    header_more : stage_of s ≡ 0 → Keeps HEADER
     header_more h e =
         record {
           counts = omega arith;
@@ -86,7 +89,7 @@ module _ (ws : List ℕ) where
           rule_words = q.rule_words;
         }
 
-    prices_more : s.stage ≡ HEADER → Keeps PRICES
+    prices_more : stage_of s ≡ HEADER → Keeps PRICES
     prices_more h e =
         let z : i ≡ 1 = omega arith in
         record {
@@ -102,7 +105,7 @@ module _ (ws : List ℕ) where
           rule_words = q.rule_words;
         }
 
-    source_more : PRICES ≤ s.stage → s.stage ≤ SOURCE → s.sources < most_sources → Keeps SOURCE
+    source_more : PRICES ≤ stage_of s → stage_of s ≤ SOURCE → s.sources < most_sources → Keeps SOURCE
     source_more a b few e =
         let z : i ≡ 2 + s.sources = omega arith in
         record {
@@ -113,13 +116,13 @@ module _ (ws : List ℕ) where
           source_words = each_more ws 2 s.sources (Entry SOURCE) i z q.source_words (source_entry AsJob s _ g e);
           sources_rise =
               rising_more ws 2 s.sources function_in i z q.sources_rise
-              (risen ws s i SOURCE 2 s.sources q.last z (λ n. omega arith) (λ x. omega arith) e g.order);
+              (risen ws s i Source 2 s.sources q.last z (λ n. omega arith) (λ x. cc) e g.order);
           target_words = each_none ws (2 + (s.sources + 1)) s.targets (Entry TARGET) (omega arith);
           targets_rise = rising_none ws (2 + (s.sources + 1)) s.targets function_in (omega arith);
           rule_words = each_none ws (2 + (s.sources + 1) + s.targets) s.rules (RecipeWord RULE) (omega arith);
         }
 
-    target_more : SOURCE ≤ s.stage → s.stage ≤ TARGET → s.targets < most_targets → Keeps TARGET
+    target_more : SOURCE ≤ stage_of s → stage_of s ≤ TARGET → s.targets < most_targets → Keeps TARGET
     target_more a b few e =
         let z : i ≡ 2 + s.sources + s.targets = omega arith in
         record {
@@ -132,11 +135,11 @@ module _ (ws : List ℕ) where
           target_words = each_more ws (2 + s.sources) s.targets (Entry TARGET) i z q.target_words (target_entry AsJob s _ g e);
           targets_rise =
               rising_more ws (2 + s.sources) s.targets function_in i z q.targets_rise
-              (risen ws s i TARGET (2 + s.sources) s.targets q.last z (λ n. omega arith) (λ x. omega arith) e g.order);
+              (risen ws s i Target (2 + s.sources) s.targets q.last z (λ n. omega arith) (λ x. cc) e g.order);
           rule_words = each_none ws (2 + s.sources + (s.targets + 1)) s.rules (RecipeWord RULE) (omega arith);
         }
 
-    rule_more : SOURCE ≤ s.stage → s.stage ≤ RULE → s.rules < most_rules → Keeps RULE
+    rule_more : SOURCE ≤ stage_of s → stage_of s ≤ RULE → s.rules < most_rules → Keeps RULE
     rule_more a b few e =
         let z : i ≡ 2 + s.sources + s.targets + s.rules = omega arith in
         record {
@@ -150,7 +153,7 @@ module _ (ws : List ℕ) where
           targets_rise = q.targets_rise;
           rule_words =
               each_more ws (2 + s.sources + s.targets) s.rules (RecipeWord RULE) i z q.rule_words
-              (recipe_word AsJob s _ g RULE e (omega arith) (omega arith));
+              (rule_word AsJob s _ g e);
         }
 
     held_more : Held ws (after s (get_or ws i 0)) (i + 1)
@@ -216,9 +219,6 @@ from_held ws s h q =
       rule_words = q.rule_words;
     }
 
-apart : {Q : Type 0} (r : Refusal) (job : Job) → Err r ≡ Ok job → Q
-apart r job e = let z : ◌≡◌ {A = ℕ} 0 1 = cc in absurd (omega arith)
-
 -- what the words hold once all have passed
 pub all_held : (ws : List ℕ) (s : State) → reading AsJob beginning 0 ws ≡ Ok s → 1 ≤ s.sources
     → JobFacts ws (job_facts (get_or ws 0 0) (get_or ws 1 0) s)
@@ -227,19 +227,17 @@ all_held ws s e h =
     (passed AsJob ws (Held ws) (λ t i _. held_more ws t i) (length ws) 0 beginning s (omega arith) (held_none ws) e)
 
 module _ (ws : List ℕ) (job : Job) where
-  once_read : (r : Result State Refusal) → reading AsJob beginning 0 ws ≡ r → job_ended ws r ≡ Ok job → JobFacts ws job
+  once_read : (r : Result State Refusal) → words_read AsJob ws ≡ r → job_ended ws r ≡ Ok job → JobFacts ws job
   once_read (Ok s) e =
       either (λ j. j ≡ Ok job → JobFacts ws job) (ltb s.sources 1)
-      (λ _. apart _ job)
-      (λ h a. let u : job_facts (get_or ws 0 0) (get_or ws 1 0) s ≡ job = cc in subst (JobFacts ws) u (all_held ws s e (ltb-false s.sources 1 h)))
-  once_read (Err r) e = apart r job
+      (λ _ a. absurd cc)
+      (λ h a. let u : job_facts (get_or ws 0 0) (get_or ws 1 0) s ≡ job = cc in
+      subst (JobFacts ws) u (all_held ws s (were_read AsJob ws s e).read (ltb-false s.sources 1 h)))
+  once_read (Err r) e = λ a. absurd cc
 
   pub well_formed : WellFormedJob ws job → JobFacts ws job
   unfolding job_of
-  well_formed =
-      let Q : Result Job Refusal → Type 0 = λ j. j ≡ Ok job → JobFacts ws job in
-      either Q (ltb (length ws) 1) (λ _. apart _ job)
-      (λ _. either Q (ltb most_job_words (length ws)) (λ _. apart _ job) (λ _. once_read (reading AsJob beginning 0 ws) refl))
+  well_formed = once_read (words_read AsJob ws) refl
 
   -- the parts of an accepted job's words
   module _ (e : WellFormedJob ws job) where

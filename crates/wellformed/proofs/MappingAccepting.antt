@@ -12,21 +12,23 @@ use Rattle.words.specs.Field.{field, kind_of, content_of}
 use Rattle.words.proofs.Choices.{and_join}
 use Rattle.words.proofs.Lists.{drop-next}
 use Rattle.recipe.specs.Fields.{source_of}
-use Rattle.words.specs.Kinds.{HEADER, BINDING, GLUE}
+use Rattle.words.specs.Kinds.{HEADER, BINDING, GLUE, is_recipe}
+use Rattle.words.specs.declared.kind.WordKind.TheVariants.{Header, Binding, Glue}
 use Rattle.sequence.specs.Limits.{most_bindings}
-use Rattle.sequence.specs.Sequence.{mapping_sequence, in_sequence}
-use Rattle.grammar.specs.Reading.{rises, word_fault, beginning, after, function_in, reading}
+use Rattle.sequence.specs.Sequence.{stage_of, mapping_sequence, in_sequence}
+use Rattle.grammar.specs.Reading.{rises, beginning, after, function_in, reading}
 use Rattle.reader.specs.Mapping.{WellFormedMapping}
 use Rattle.sequence.specs.declared.File.{File}
 use Rattle.sequence.specs.declared.File.TheVariants.{AsMapping}
 use Rattle.sequence.specs.declared.State.{State}
 use Rattle.std.specs.Prelude.{Ok}
 use Rattle.reader.specs.declared.Mapping.{Mapping}
-use Rattle.grammar.proofs.Steps.{header_fits_lem, glue_fits_lem, recipe_fits, next_of_kind, first_of_kind}
+use Rattle.grammar.proofs.Steps.{by_kind, first_of_kind}
 use Rattle.wellformed.proofs.Parts.{RecipeWord, kind_of-laid, content_of-laid}
 use Rattle.grammar.proofs.Faultless.{Faultless, no_fault}
-use Rattle.wellformed.proofs.Words.{is_width_lem, width_whole, no_outputs, recipe_outputs, function_of-binding}
+use Rattle.wellformed.proofs.Words.{is_width_lem, width_whole, no_outputs, recipe_outputs, function_of-binding, rises_above}
 use Rattle.wellformed.proofs.MappingWords.{Open, by_open, MappingFacts}
+use Rattle.reader.proofs.Limits.{some_words}
 use Rattle.reader.proofs.MappingAnswers.{accepted}
 
 -- ---- one word
@@ -34,17 +36,17 @@ use Rattle.reader.proofs.MappingAnswers.{accepted}
 -- a word without a fault is passed over
 pub passes : (file : File) (ws : List ℕ) (s : State) (i : ℕ) → i < length ws → Faultless file s (get_or ws i 0)
     → reading file s i (drop i ws) ≡ reading file (after s (get_or ws i 0)) (i + 1) (drop (i + 1) ws)
-passes file ws s i h g = rw (drop-next ws i h, eq-eqb (word_fault file s (get_or ws i 0)) 0 (no_fault file s (get_or ws i 0) g)) refl
+passes file ws s i h g = rw (drop-next ws i h, no_fault file s (get_or ws i 0) g) refl
 
 module _ (s : State) (w : ℕ) where
-  free_header : s.stage ≡ 0 → kind_of w ≡ HEADER → 1 ≤ content_of w → content_of w ≤ 64 → Faultless AsMapping s w
-  unfolding in_sequence mapping_sequence
+  free_header : stage_of s ≡ 0 → kind_of w ≡ HEADER → 1 ≤ content_of w → content_of w ≤ 64 → Faultless AsMapping s w
+  unfolding in_sequence mapping_sequence is_recipe
   free_header z k g h =
       record {
         in_sequence_lem = rw (k, z) refl;
-        layout = sym (header_fits_lem AsMapping w (kind_of w) (content_of w) refl refl true k (sym (is_width_lem (content_of w) g h)));
-        order = sym (first_of_kind s w (kind_of w) refl (λ e. omega arith) (λ e. omega arith));
-        outputs = no_outputs w HEADER k (λ e. omega arith) (λ e. omega arith);
+        layout = sym (by_kind AsMapping w Header k) ∙ is_width_lem (content_of w) g h;
+        order = sym (first_of_kind s w Header k (λ e. omega arith));
+        outputs = no_outputs w HEADER k refl;
       }
 
   free_binding : Open s → s.bindings < most_bindings → RecipeWord BINDING w → rises s w ≡ true → Faultless AsMapping s w
@@ -54,25 +56,19 @@ module _ (s : State) (w : ℕ) where
       let f = recipe_outputs w r.no_fault in
       record {
         in_sequence_lem = rw k (and_join o (lt-ltb s.bindings most_bindings few));
-        layout =
-            sym
-            (recipe_fits AsMapping w (kind_of w) (content_of w) refl refl (λ e. omega arith) (λ e. omega arith) (λ e. omega arith)
-            (λ e. omega arith) true (λ e. omega arith) (sym f.laid_out_lem));
+        layout = sym (by_kind AsMapping w Binding k) ∙ f.laid_out_lem;
         order = order;
         outputs = λ _. (f.driven, f.exact);
       }
 
-  free_glue : Open s → kind_of w ≡ GLUE → (s.stage ≡ GLUE → ⊥) → Faultless AsMapping s w
-  unfolding in_sequence mapping_sequence
+  free_glue : Open s → kind_of w ≡ GLUE → (stage_of s ≡ GLUE → ⊥) → Faultless AsMapping s w
+  unfolding in_sequence mapping_sequence is_recipe
   free_glue o k other =
       record {
         in_sequence_lem = rw k o;
-        layout =
-            sym
-            (glue_fits_lem AsMapping w (kind_of w) (content_of w) refl refl (λ e. omega arith) (λ e. omega arith) (λ e. omega arith)
-            (λ e. omega arith) k);
-        order = sym (first_of_kind s w (kind_of w) refl (λ e. omega arith) (λ e. other (e ∙ k)));
-        outputs = no_outputs w GLUE k (λ e. omega arith) (λ e. omega arith);
+        layout = sym (by_kind AsMapping w Glue k);
+        order = sym (first_of_kind s w Glue k other);
+        outputs = no_outputs w GLUE k refl;
       }
 
 -- ---- all words
@@ -88,7 +84,7 @@ record Ready (ws : List ℕ) (s : State) (i j : ℕ) : Type 0 where
 record Closes (ws : List ℕ) (s : State) (i n : ℕ) : Type 0 where
   end : State
   ends : reading AsMapping s i (drop i ws) ≡ Ok end
-  closed : end.stage ≡ GLUE
+  closed : stage_of end ≡ GLUE
   bound : end.bindings ≡ n
 
 module _ (ws : List ℕ) (mapping : Mapping) (q : MappingFacts ws mapping) where
@@ -115,13 +111,13 @@ module _ (ws : List ℕ) (mapping : Mapping) (q : MappingFacts ws mapping) where
   at_glue i s r =
       let w = get_or ws i 0 in
       let k : kind_of w ≡ GLUE = subst (λ (x : ℕ). kind_of (get_or ws x 0) ≡ GLUE) (sym r.next) q.glue_kind in
-      let other : s.stage ≡ GLUE → ⊥ = λ e. by_open s r.is_open (λ h. omega arith) (λ h. omega arith) in
+      let other : stage_of s ≡ GLUE → ⊥ = λ e. by_open s r.is_open (λ h. omega arith) (λ h. omega arith) in
       let e = passes AsMapping ws s i (omega (arith, q.size)) (free_glue s w r.is_open k other) in
       let z : drop (i + 1) ws ≡ [] = drop_of_length-le ws {i = i + 1} (omega (arith, q.size)) in
       record {
         end = after s w;
         ends = e ∙ ap (reading AsMapping (after s w) (i + 1)) z;
-        closed = k;
+        closed = rw k refl;
         bound = rw k r.bound;
       }
 
@@ -133,11 +129,13 @@ module _ (ws : List ℕ) (mapping : Mapping) (q : MappingFacts ws mapping) where
         next = omega arith;
         bound = rw k (ap (λ (x : ℕ). x + 1) r.bound);
         is_open = rw k refl;
-        order =
-            λ v kv above.
-            sym (next_of_kind (after s w) v (kind_of v) refl (λ e. omega arith) (function_in v) (k ∙ sym kv) refl)
-            ∙ lt-ltb (function_in w) (function_in v) (above (omega arith) i refl);
+        order = λ v kv above. rises_above s w Binding k v kv (λ e. cc) (above (omega arith) i refl);
       }
+
+  -- a word that is passed over, before those that close
+  closes_more : (i : ℕ) (s : State) → i < length ws → Faultless AsMapping s (get_or ws i 0)
+      → Closes ws (after s (get_or ws i 0)) (i + 1) mapping.bindings → Closes ws s i mapping.bindings
+  closes_more i s h g c = record { end = c.end; ends = passes AsMapping ws s i h g ∙ c.ends; closed = c.closed; bound = c.bound }
 
   at_bindings : (d i j : ℕ) (s : State) → j + d ≡ mapping.bindings → Ready ws s i j → Closes ws s i mapping.bindings
   at_bindings zero i j s e r =
@@ -146,24 +144,21 @@ module _ (ws : List ℕ) (mapping : Mapping) (q : MappingFacts ws mapping) where
       let w = get_or ws i 0 in
       let b = binding_at_lem i (omega arith) (omega arith) in
       let order = r.order w b.kind_is (λ g p h. rise_at p i (omega arith) h (omega arith)) in
-      let g = passes AsMapping ws s i (omega (arith, q.size)) (free_binding s w r.is_open (omega (arith, q.bindings_most)) b order) in
-      let c = at_bindings d (i + 1) (j + 1) (after s w) (omega arith) (ready_more i j s (omega arith) r) in
-      record { end = c.end; ends = g ∙ c.ends; closed = c.closed; bound = c.bound }
+      closes_more i s (omega (arith, q.size)) (free_binding s w r.is_open (omega (arith, q.bindings_most)) b order)
+      (at_bindings d (i + 1) (j + 1) (after s w) (omega arith) (ready_more i j s (omega arith) r))
 
   after-header : Closes ws beginning 0 mapping.bindings
   after-header =
       let w = get_or ws 0 0 in
       let k = q.header_kind in
-      let g = passes AsMapping ws beginning 0 (omega (arith, q.size)) (free_header beginning w refl k (omega arith) (omega arith)) in
-      let r : Ready ws (after beginning w) 1 0 =
-      record {
+      closes_more 0 beginning (omega (arith, q.size)) (free_header beginning w refl k (omega arith) (omega arith))
+      (at_bindings mapping.bindings 1 0 (after beginning w) (omega arith)
+      (record {
         next = refl;
         bound = rw k refl;
         is_open = rw k refl;
-        order = λ v kv _. sym (first_of_kind (after beginning w) v (kind_of v) refl (λ e. omega arith) (λ e. omega arith));
-      } in
-      let c = at_bindings mapping.bindings 1 0 (after beginning w) (omega arith) r in
-      record { end = c.end; ends = g ∙ c.ends; closed = c.closed; bound = c.bound }
+        order = λ v kv _. sym (first_of_kind (after beginning w) v Binding kv (rw k (λ e. omega arith)));
+      }))
 
   pub accepts : WellFormedMapping ws mapping
   accepts =
@@ -173,8 +168,9 @@ module _ (ws : List ℕ) (mapping : Mapping) (q : MappingFacts ws mapping) where
       let last : 1 + mapping.bindings ≡ length ws - 1 = omega (arith, q.size) in
       let glue : mapping.glue ≡ field (get_or ws (length ws - 1) 0) 0 28
       = sym q.glue ∙ ap (λ (x : ℕ). content_of (get_or ws x 0)) last in
+      let words = some_words AsMapping ws (omega (arith, q.size)) (omega (arith, q.size, q.bindings_most)) ∙ c.ends in
       sym
-      (accepted ws _ refl (omega (arith, q.size)) (omega (arith, q.size, q.bindings_most)) c.end c.ends mapping c.closed
+      (accepted ws (Ok c.end) (sym words) c.end refl _ refl mapping (eq-eqb (stage_of c.end) GLUE c.closed)
       (λ x. record { width = width x; bindings = sym c.bound x; glue = glue x }))
 
 -- ---- words written one after another: a header, bindings and a glue count

@@ -12,42 +12,45 @@ use Rattle.words.proofs.Choices.{either, and_split, or_split}
 use Rattle.words.proofs.Fields.{field_lt}
 use Rattle.recipe.specs.Fields.{source_of}
 use Rattle.words.specs.Kinds.{HEADER, BINDING, GLUE}
+use Rattle.words.specs.declared.kind.WordKind.TheVariants.{Binding}
 use Rattle.words.specs.declared.Refusal.{Refusal}
-use Rattle.sequence.specs.Limits.{most_bindings, most_mapping_words}
+use Rattle.sequence.specs.Limits.{most_bindings}
 use Rattle.reader.specs.Starts.{bindings_start}
-use Rattle.sequence.specs.Sequence.{mapping_sequence, in_sequence}
+use Rattle.reader.specs.Words.{words_read}
+use Rattle.sequence.specs.Sequence.{stage_of, mapping_sequence, in_sequence}
 use Rattle.grammar.specs.Reading.{beginning, noted, after, function_in, reading}
 use Rattle.reader.specs.Mapping.{mapping_facts, mapping_ended, mapping_of, WellFormedMapping}
 use Rattle.sequence.specs.declared.File.TheVariants.{AsMapping}
 use Rattle.sequence.specs.declared.State.{State}
 use Rattle.std.specs.Prelude.{Result, Ok, Err}
 use Rattle.reader.specs.declared.Mapping.{Mapping}
+use Rattle.reader.proofs.Limits.{were_read}
 use Rattle.alu.proofs.Shown.{width_of}
 use Rattle.wellformed.proofs.Parts.{Each, Rising, RecipeWord, word_of-kind, each_none, each_more, rising_none, rising_more, rising_as}
 use Rattle.grammar.proofs.Faultless.{Faultless, passed}
-use Rattle.wellformed.proofs.Words.{Last, HeaderFirst, header_first, last_more, width_whole, recipe_word, function_of-binding, risen}
+use Rattle.wellformed.proofs.Words.{Last, HeaderFirst, header_first, last_more, width_whole, binding_word, function_of-binding, risen}
 
 -- ---- the three kinds, in sequence
 
 -- bindings and the glue count come after the header or a binding
 abbrev pub Open : State → Type 0
-Open s = eqb s.stage HEADER || eqb s.stage BINDING ≡ true
+Open s = eqb (stage_of s) HEADER || eqb (stage_of s) BINDING ≡ true
 
-pub by_open : {Q : Type 0} (s : State) → Open s → (s.stage ≡ HEADER → Q) → (s.stage ≡ BINDING → Q) → Q
-by_open s o p q = or_split (eqb s.stage HEADER) _ o (λ e. p (eqb-true s.stage HEADER e)) (λ e. q (eqb-true s.stage BINDING e))
+pub by_open : {Q : Type 0} (s : State) → Open s → (stage_of s ≡ HEADER → Q) → (stage_of s ≡ BINDING → Q) → Q
+by_open s o p q = or_split (eqb (stage_of s) HEADER) _ o (λ e. p (eqb-true (stage_of s) HEADER e)) (λ e. q (eqb-true (stage_of s) BINDING e))
 
 module _ (s : State) (P : ℕ → Type 0) where
   by_kind : (k : ℕ) → mapping_sequence s k ≡ true
-      → (s.stage ≡ 0 → P HEADER)
+      → (stage_of s ≡ 0 → P HEADER)
       → (Open s → s.bindings < most_bindings → P BINDING)
       → (Open s → P GLUE)
       → P k
   unfolding mapping_sequence
   by_kind k f header binding glue =
       let Q : Bool → Type 0 = λ b. b ≡ true → P k in
-      either Q (eqb k HEADER) (λ e h. at HEADER e (header (eqb-true s.stage 0 h)))
+      either Q (eqb k HEADER) (λ e h. at HEADER e (header (eqb-true (stage_of s) 0 h)))
       (λ _. either Q (eqb k BINDING)
-      (λ e h. let u = and_split (eqb s.stage HEADER || eqb s.stage BINDING) (ltb s.bindings most_bindings) h in
+      (λ e h. let u = and_split (eqb (stage_of s) HEADER || eqb (stage_of s) BINDING) (ltb s.bindings most_bindings) h in
       at BINDING e (binding u.0 (ltb-true s.bindings most_bindings u.1)))
       (λ _. either Q (eqb k GLUE) (λ e h. at GLUE e (glue h)) (λ _ e. absurd (false≢true e)))) f
     where
@@ -58,23 +61,23 @@ module _ (s : State) (P : ℕ → Type 0) where
 
 -- How many there were. Bindings are counted only once the header has been passed (27 * 0 before).
 record Counts (s : State) (i : ℕ) : Type 0 where
-  passed : min s.stage HEADER + s.bindings + (s.stage - BINDING) ≡ i
-  bindings_begun : s.bindings ≤ most_bindings * (s.stage - HEADER)
+  passed : min (stage_of s) HEADER + s.bindings + (stage_of s - BINDING) ≡ i
+  bindings_begun : s.bindings ≤ most_bindings * (stage_of s - HEADER)
   few_bindings : s.bindings ≤ most_bindings
-  last_kind : s.stage ≤ GLUE
+  last_kind : stage_of s ≤ GLUE
 
 record Held (ws : List ℕ) (s : State) (i : ℕ) : Type 0 where
   counts : Counts s i
   last : Last ws s i
-  header : 1 ≤ s.stage → HeaderFirst AsMapping ws
+  header : 1 ≤ stage_of s → HeaderFirst AsMapping ws
   binding_words_lem : Each (RecipeWord BINDING) ws 1 s.bindings
   bindings_rise : Rising function_in ws 1 s.bindings
-  glue : GLUE ≤ s.stage → kind_of (get_or ws (1 + s.bindings) 0) ≡ GLUE
+  glue : GLUE ≤ stage_of s → kind_of (get_or ws (1 + s.bindings) 0) ≡ GLUE
 
 record Opened (s : State) (i : ℕ) : Type 0 where
   next : i ≡ 1 + s.bindings
-  begun : 1 ≤ s.stage
-  bound : 1 ≤ s.bindings → s.stage ≡ BINDING
+  begun : 1 ≤ stage_of s
+  bound : 1 ≤ s.bindings → stage_of s ≡ BINDING
 
 opened : (s : State) (i : ℕ) → Counts s i → Open s → Opened s i
 opened s i q o =
@@ -98,7 +101,7 @@ module _ (ws : List ℕ) where
     abbrev Keeps : ℕ → Type 0
     Keeps k = kind_of (get_or ws i 0) ≡ k → Held ws (noted k (function_in (get_or ws i 0)) s) (i + 1)
 
-    header_more : s.stage ≡ 0 → Keeps HEADER
+    header_more : stage_of s ≡ 0 → Keeps HEADER
     header_more h e =
         record {
           counts = omega arith;
@@ -118,10 +121,10 @@ module _ (ws : List ℕ) where
           header = λ _. q.header o.begun;
           binding_words_lem =
               each_more ws 1 s.bindings (RecipeWord BINDING) i o.next q.binding_words_lem
-              (recipe_word AsMapping s _ g BINDING e (omega arith) (omega arith));
+              (binding_word AsMapping s _ g e);
           bindings_rise =
               rising_more ws 1 s.bindings function_in i o.next q.bindings_rise
-              (risen ws s i BINDING 1 s.bindings q.last o.next o.bound (λ x. omega arith) e g.order);
+              (risen ws s i Binding 1 s.bindings q.last o.next o.bound (λ x. cc) e g.order);
           glue = λ l. absurd (omega arith);
         }
 
@@ -163,7 +166,7 @@ header_word ws mapping h l = omega (arith, word_of-kind HEADER (get_or ws 0 0) h
 pub glue_fits_lem : (ws : List ℕ) (mapping : Mapping) → MappingFacts ws mapping → mapping.glue < 2 ^ 28
 glue_fits_lem ws mapping h = omega (arith, h.glue, field_lt (get_or ws (1 + mapping.bindings) 0) 0 28)
 
-from_held : (ws : List ℕ) (s : State) → s.stage ≡ GLUE → Held ws s (length ws)
+from_held : (ws : List ℕ) (s : State) → stage_of s ≡ GLUE → Held ws s (length ws)
     → MappingFacts ws (mapping_facts (get_or ws 0 0) (get_or ws (length ws - 1) 0) s)
 from_held ws s h q =
     let header = q.header (omega arith) in
@@ -184,28 +187,23 @@ from_held ws s h q =
       glue = ap (λ (x : ℕ). content_of (get_or ws x 0)) last;
     }
 
-apart : {Q : Type 0} (r : Refusal) (mapping : Mapping) → Err r ≡ Ok mapping → Q
-apart r mapping e = let z : ◌≡◌ {A = ℕ} 0 1 = cc in absurd (omega arith)
-
 -- what the words hold once all have passed
-all_held : (ws : List ℕ) (s : State) → reading AsMapping beginning 0 ws ≡ Ok s → s.stage ≡ GLUE
+all_held : (ws : List ℕ) (s : State) → reading AsMapping beginning 0 ws ≡ Ok s → stage_of s ≡ GLUE
     → MappingFacts ws (mapping_facts (get_or ws 0 0) (get_or ws (length ws - 1) 0) s)
 all_held ws s e h =
     from_held ws s h
     (passed AsMapping ws (Held ws) (λ t i _. held_more ws t i) (length ws) 0 beginning s (omega arith) (held_none ws) e)
 
 module _ (ws : List ℕ) (mapping : Mapping) where
-  once_read : (r : Result State Refusal) → reading AsMapping beginning 0 ws ≡ r → mapping_ended ws r ≡ Ok mapping → MappingFacts ws mapping
+  once_read : (r : Result State Refusal) → words_read AsMapping ws ≡ r → mapping_ended ws r ≡ Ok mapping → MappingFacts ws mapping
   once_read (Ok s) e =
-      either (λ m. m ≡ Ok mapping → MappingFacts ws mapping) (not (eqb s.stage GLUE))
-      (λ _. apart _ mapping)
+      either (λ m. m ≡ Ok mapping → MappingFacts ws mapping) (not (eqb (stage_of s) GLUE))
+      (λ _ a. absurd cc)
       (λ h a. let u : mapping_facts (get_or ws 0 0) (get_or ws (length ws - 1) 0) s ≡ mapping = cc in
-      subst (MappingFacts ws) u (all_held ws s e (eqb-true s.stage GLUE (not-false (eqb s.stage GLUE) h))))
-  once_read (Err r) e = apart r mapping
+      let glue = eqb-true (stage_of s) GLUE (not-false (eqb (stage_of s) GLUE) h) in
+      subst (MappingFacts ws) u (all_held ws s (were_read AsMapping ws s e).read glue))
+  once_read (Err r) e = λ a. absurd cc
 
   pub well_formed : WellFormedMapping ws mapping → MappingFacts ws mapping
   unfolding mapping_of
-  well_formed =
-      let Q : Result Mapping Refusal → Type 0 = λ m. m ≡ Ok mapping → MappingFacts ws mapping in
-      either Q (ltb (length ws) 1) (λ _. apart _ mapping)
-      (λ _. either Q (ltb most_mapping_words (length ws)) (λ _. apart _ mapping) (λ _. once_read (reading AsMapping beginning 0 ws) refl))
+  well_formed = once_read (words_read AsMapping ws) refl

@@ -7,6 +7,7 @@ use native.Mathlib.Nat.{eq-or-lt_of_le, add-zero}
 use native.Mathlib.Omega.{arith}
 use borrow.Author.Count.{below_more}
 use lib.ListN.{get_or}
+use Rattle.std.specs.Prelude.{None}
 use Rattle.words.specs.Field.{kind_of, content_of}
 use Rattle.layout.specs.Layout.{recipe_fault}
 
@@ -27,7 +28,7 @@ pub record Entry (kind w : ℕ) : Type 0 where
 -- a rule or binding word: a kind and a recipe that passes 3, 5 and 6
 pub record RecipeWord (kind w : ℕ) : Type 0 where
   pub kind_is : kind_of w ≡ kind
-  pub no_fault : recipe_fault w ≡ 0
+  pub no_fault : recipe_fault w ≡ None
 
 -- A word is its kind and its content. (The definitions read words as numbers; those of a slice are below 2 ^ 32.)
 pub whole_word : (w : ℕ) → w < 2 ^ 32 → w ≡ kind_of w * 2 ^ 28 + content_of w

@@ -1,23 +1,29 @@
 -- A word without a fault: what each kind of word then holds.
 use mathlib.Core.Path.{◌≡◌, refl, sym, ap, subst, ◌∙◌}
-use mathlib.Core.Bool.{Bool, true, false, not, false≢true}
+use mathlib.Core.Bool.{true, false, not, false≢true}
 use mathlib.Core.List.{List}
 use Prim.Native.Nat.{ℕ, ◌+◌, ◌<◌, ◌≤◌, ◌^◌}
 use native.Mathlib.Omega.{arith}
-use lib.Dec.{eqb, ltb}
+use lib.Dec.{ltb}
 use lib.ListN.{get_or}
-use borrow.Author.Tests.{eq-eqb, eqb-true, eqb-false, le-ltb, le-leb, leb-true, ltb-true, ltb-false, not-false}
+use borrow.Author.Tests.{lt-ltb, le-ltb, le-leb, leb-true, ltb-true, ltb-false, not-false}
+use Rattle.std.specs.Prelude.{Option, Some, None}
 use Rattle.words.specs.Field.{field, kind_of, content_of}
-use Rattle.words.specs.Kinds.{HEADER, PRICES, SOURCE, TARGET, RULE, BINDING, is_recipe}
+use Rattle.words.specs.Kinds.{HEADER, PRICES, SOURCE, TARGET, RULE, BINDING, kind_number, kind_named, is_recipe}
+use Rattle.words.specs.declared.kind.WordKind.{WordKind}
+use Rattle.words.specs.declared.kind.WordKind.TheVariants.{Header, Prices, Source, Target, Rule, Binding}
+use Rattle.words.specs.declared.Fault.{Fault}
+use Rattle.words.proofs.Named.{named_back}
 use Rattle.words.proofs.Choices.{either}
 use Rattle.alu.specs.Range.{is_function, is_width}
 use Rattle.bits.specs.Asked.{Width}
 use Rattle.recipe.specs.Fields.{source_of}
 use Rattle.layout.specs.Layout.{laid_out, reads_undriven, shows_other, recipe_fault}
-use Rattle.grammar.specs.Reading.{header_fits, fits, function_in, rises}
+use Rattle.sequence.specs.Sequence.{stage_after, stage_of, function_after, function_of}
+use Rattle.grammar.specs.Reading.{header_fits, fits, function_in, rises, last_word, after}
 use Rattle.sequence.specs.declared.File.{File}
 use Rattle.sequence.specs.declared.State.{State}
-use Rattle.grammar.proofs.Steps.{header_fits_lem, prices_fit_lem, source_fits_lem, target_fits_lem, recipe_fits, of_source, of_target, of_recipe}
+use Rattle.grammar.proofs.Steps.{by_kind, rising_by, next_of_kind}
 use Rattle.grammar.proofs.Faultless.{Faultless}
 use Rattle.wellformed.proofs.Parts.{Entry, RecipeWord}
 
@@ -48,100 +54,80 @@ pub record Outputs (w : ℕ) : Type 0 where
   pub driven : reads_undriven w ≡ false
   pub exact : shows_other w ≡ false
 
-pub recipe_outputs : (w : ℕ) → recipe_fault w ≡ 0 → Outputs w
+pub recipe_outputs : (w : ℕ) → recipe_fault w ≡ None → Outputs w
 unfolding recipe_fault
 recipe_outputs w =
-    let Q : ℕ → Type 0 = λ n. n ≡ 0 → Outputs w in
-    either Q (not (laid_out w)) (λ _ e. absurd (omega arith))
-    (λ a. either Q (reads_undriven w) (λ _ e. absurd (omega arith))
-    (λ b. either Q (shows_other w) (λ _ e. absurd (omega arith))
+    let Q : Option Fault → Type 0 = λ n. n ≡ None → Outputs w in
+    either Q (not (laid_out w)) (λ _ e. absurd cc)
+    (λ a. either Q (reads_undriven w) (λ _ e. absurd cc)
+    (λ b. either Q (shows_other w) (λ _ e. absurd cc)
     (λ c _. record { laid_out_lem = not-false (laid_out w) a; driven = b; exact = c })))
 
-pub recipe_faultless : (w : ℕ) → Outputs w → recipe_fault w ≡ 0
+pub recipe_faultless : (w : ℕ) → Outputs w → recipe_fault w ≡ None
 unfolding recipe_fault
 recipe_faultless w o = rw (o.laid_out_lem, o.driven, o.exact) refl
 
--- rules and bindings hold recipes
-pub holds_recipe : (k w : ℕ) → kind_of w ≡ k → 5 ≤ k → k ≤ 6 → is_recipe (kind_of w) ≡ true
-unfolding is_recipe
-holds_recipe k w e g h =
-    either (λ b. b ≡ true) (eqb (kind_of w) RULE) (λ _. refl)
-    (λ n. eq-eqb (kind_of w) BINDING (omega (arith, eqb-false (kind_of w) RULE n)))
-
--- other kinds have no outputs
-pub no_outputs : (w k : ℕ) → kind_of w ≡ k → (k ≡ RULE → ⊥) → (k ≡ BINDING → ⊥) → is_recipe (kind_of w) ≡ true
+-- words of a kind that holds no recipe have no outputs
+pub no_outputs : (w k : ℕ) → kind_of w ≡ k → is_recipe k ≡ false → is_recipe (kind_of w) ≡ true
     → (reads_undriven w ≡ false) × (shows_other w ≡ false)
-unfolding is_recipe
-no_outputs w k e no5 no6 =
-    either (λ b. b ≡ true → (reads_undriven w ≡ false) × (shows_other w ≡ false)) (eqb (kind_of w) RULE)
-    (λ h _. absurd (no5 (sym e ∙ eqb-true (kind_of w) RULE h))) (λ _ h. absurd (no6 (sym e ∙ eqb-true (kind_of w) BINDING h)))
+no_outputs w k e other h = absurd (false≢true (sym other ∙ ap is_recipe (sym e) ∙ h))
 
 -- ---- what the kinds of words hold
 
 module _ (file : File) (s : State) (w : ℕ) (g : Faultless file s w) where
   header_layout : kind_of w ≡ HEADER → header_fits file w ≡ true
-  header_layout e = header_fits_lem file w (kind_of w) (content_of w) refl refl _ e refl ∙ g.layout
+  header_layout e = by_kind file w Header e ∙ g.layout
 
   pub prices_range : kind_of w ≡ PRICES → content_of w < 2 ^ 24
-  prices_range e =
-      ltb-true (content_of w) (2 ^ 24) (prices_fit_lem file w (kind_of w) (content_of w) refl refl (λ x. omega arith) e ∙ g.layout)
+  prices_range e = ltb-true (content_of w) (2 ^ 24) (by_kind file w Prices e ∙ g.layout)
 
   entry : (k : ℕ) → kind_of w ≡ k → is_function (content_of w) ≡ true → Entry k w
   entry k e h = let r = in_range_lem (content_of w) h in record { kind_is = e; least = r.0; most = r.1 }
 
   pub source_entry : kind_of w ≡ SOURCE → Entry SOURCE w
-  source_entry e =
-      entry SOURCE e
-      (source_fits_lem file w (kind_of w) (content_of w) refl refl (λ x. omega arith) (λ x. omega arith) _ e refl ∙ g.layout)
+  source_entry e = entry SOURCE e (by_kind file w Source e ∙ g.layout)
 
   pub target_entry : kind_of w ≡ TARGET → Entry TARGET w
-  target_entry e =
-      entry TARGET e
-      (target_fits_lem file w (kind_of w) (content_of w) refl refl (λ x. omega arith) (λ x. omega arith) (λ x. omega arith) _ e refl
-      ∙ g.layout)
+  target_entry e = entry TARGET e (by_kind file w Target e ∙ g.layout)
 
-  pub recipe_word : (k : ℕ) → kind_of w ≡ k → 5 ≤ k → k ≤ 6 → RecipeWord k w
-  recipe_word k e a b =
-      let o = g.outputs (holds_recipe k w e a b) in
-      record {
-        kind_is = e;
-        no_fault =
-            recipe_faultless w
-            (record {
-              laid_out_lem = laid_out-as k e a b ∙ g.layout;
-              driven = o.0;
-              exact = o.1;
-            });
-      }
-    where
-      laid_out-as : (k : ℕ) → kind_of w ≡ k → 5 ≤ k → k ≤ 6 → laid_out w ≡ fits file w
-      laid_out-as k e a b =
-          recipe_fits file w (kind_of w) (content_of w) refl refl (λ x. omega arith) (λ x. omega arith) (λ x. omega arith) (λ x. omega arith) _
-          (λ x. omega arith) refl
+  recipe_word : (k : ℕ) → kind_of w ≡ k → is_recipe k ≡ true → laid_out w ≡ fits file w → RecipeWord k w
+  recipe_word k e r f =
+      let o = g.outputs (ap is_recipe e ∙ r) in
+      record { kind_is = e; no_fault = recipe_faultless w (record { laid_out_lem = f ∙ g.layout; driven = o.0; exact = o.1 }) }
+
+  pub rule_word : kind_of w ≡ RULE → RecipeWord RULE w
+  unfolding is_recipe
+  rule_word e = recipe_word RULE e refl (by_kind file w Rule e)
+
+  pub binding_word : kind_of w ≡ BINDING → RecipeWord BINDING w
+  unfolding is_recipe
+  binding_word e = recipe_word BINDING e refl (by_kind file w Binding e)
 
 pub function_of-source : (w : ℕ) → Entry SOURCE w → function_in w ≡ content_of w
-function_of-source w e = sym (of_source w (kind_of w) _ refl e.kind_is refl)
+function_of-source w e = sym (rising_by w Source e.kind_is)
 
 pub function_of-target : (w : ℕ) → Entry TARGET w → function_in w ≡ content_of w
-function_of-target w e = sym (of_target w (kind_of w) _ refl (λ x. omega (arith, e.kind_is)) e.kind_is refl)
+function_of-target w e = sym (rising_by w Target e.kind_is)
 
 pub function_of-binding : (w : ℕ) → RecipeWord BINDING w → function_in w ≡ source_of w
-function_of-binding w e =
-    sym (of_recipe w (kind_of w) _ refl (λ x. omega (arith, e.kind_is)) (λ x. omega (arith, e.kind_is)) refl)
+function_of-binding w e = sym (rising_by w Binding e.kind_is)
 
 -- ---- above the word before
 
-above : (s : State) (w k : ℕ) → kind_of w ≡ k → s.stage ≡ k → (k ≡ RULE → ⊥) → rises s w ≡ true → s.function < function_in w
-unfolding rises
-above s w k e h other =
-    let Q : Bool → Type 0 = λ b. b ≡ true → s.function < function_in w in
-    either Q (eqb (kind_of w) RULE) (λ a. absurd (other (sym e ∙ eqb-true (kind_of w) RULE a)))
-    (λ _. either Q (eqb s.stage (kind_of w)) (λ _ t. ltb-true s.function (function_in w) t)
-    (λ b. absurd (eqb-false s.stage (kind_of w) b (h ∙ sym e))))
+module _ (s : State) (w : ℕ) (k : WordKind) (e : kind_of w ≡ kind_number k) where
+  -- the word is the last of the state after it
+  last_after : (after s w).last ≡ Some (record { kind = k; function = function_in w })
+  last_after = ap (last_word (function_in w)) (ap kind_named e ∙ named_back k)
+
+  -- a word of the same kind rises if its function is above this one's
+  pub rises_above : (v : ℕ) → kind_of v ≡ kind_number k → (k ≡ Rule → ⊥) → function_in w < function_in v → rises (after s w) v ≡ true
+  rises_above v kv other l =
+      sym (next_of_kind (after s w) v k kv (function_in v) other (ap stage_after last_after) refl)
+      ∙ lt-ltb (function_of (after s w)) (function_in v) (omega (arith, l, ap function_after last_after))
 
 -- the state remembers the function of the word before it
 abbrev pub Last : List ℕ → State → ℕ → Type 0
-Last ws s i = (p : ℕ) → p + 1 ≡ i → s.function ≡ function_in (get_or ws p 0)
+Last ws s i = (p : ℕ) → p + 1 ≡ i → function_of s ≡ function_in (get_or ws p 0)
 
 pub last_more : (ws : List ℕ) (i p : ℕ) → p + 1 ≡ i + 1 → function_in (get_or ws i 0) ≡ function_in (get_or ws p 0)
 last_more ws i p h = let e : i ≡ p = omega arith in ap (λ (x : ℕ). function_in (get_or ws x 0)) e
@@ -155,10 +141,11 @@ pub header_first : (file : File) (s : State) (ws : List ℕ) (i : ℕ) → i ≡
 header_first file s ws i e k g =
     subst (λ (x : ℕ). (kind_of (get_or ws x 0) ≡ HEADER) × (header_fits file (get_or ws x 0) ≡ true)) e (k, header_layout file s (get_or ws i 0) g k)
 
-pub risen : (ws : List ℕ) (s : State) (i k start n : ℕ) → Last ws s i → i ≡ start + n → (1 ≤ n → s.stage ≡ k) → (k ≡ RULE → ⊥)
-    → kind_of (get_or ws i 0) ≡ k → rises s (get_or ws i 0) ≡ true
+pub risen : (ws : List ℕ) (s : State) (i : ℕ) (k : WordKind) (start n : ℕ) → Last ws s i → i ≡ start + n
+    → (1 ≤ n → stage_of s ≡ kind_number k) → (k ≡ Rule → ⊥) → kind_of (get_or ws i 0) ≡ kind_number k → rises s (get_or ws i 0) ≡ true
     → (m : ℕ) → m + 1 ≡ n → function_in (get_or ws (start + m) 0) < function_in (get_or ws i 0)
 risen ws s i k start n last e same other ek r m h =
-    let a = above s (get_or ws i 0) k ek (same (omega arith)) other r in
+    let w = get_or ws i 0 in
+    let a = ltb-true (function_of s) (function_in w) (next_of_kind s w k ek (function_in w) other (same (omega arith)) refl ∙ r) in
     let b = last (start + m) (omega arith) in
     omega (arith, a, b)

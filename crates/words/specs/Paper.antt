@@ -1,11 +1,38 @@
 -- Refusals, and answers in document 01's terms. "For an answer that is an enum, a definition gives this paper's number and values for
 -- each case of the enum."
-use Rattle.std.specs.Prelude.{ℕ, List, [], ◌∷◌}
+use Rattle.std.specs.Prelude.{ℕ, List, [], ◌∷◌, Option, Some, None, Result, Err}
 use Rattle.words.specs.declared.Refusal.{Refusal}
+use Rattle.words.specs.declared.Fault.{Fault}
+use Rattle.words.specs.declared.Fault.TheVariants as F
+
+-- "1. No words, over 568 in a job or over 29 in a mapping" .. "24": the numbers of refusals
+abbrev pub number_of : Fault → ℕ
+number_of F.BadLength = 1
+number_of F.OutOfSequence = 2
+number_of F.NotLaidOut = 3
+number_of F.NotRising = 4
+number_of F.ReadsUndriven = 5
+number_of F.OtherOutputs = 6
+number_of F.OtherWidth = 7
+number_of F.NotInJob = 8
+number_of F.Incomplete = 9
+number_of F.WrongRecipe = 10
+number_of F.OtherGlue = 11
+number_of F.Unmappable = 12
+number_of F.NotSound = 20
+number_of F.AlreadyBound = 21
+number_of F.Unbound = 22
+number_of F.TooFewWords = 23
+number_of F.NotBound = 24
 
 -- "Every refusal gives number and place"
-abbrev pub refusal : ℕ → ℕ → Refusal
-refusal number place = record { number = number; place = place }
+abbrev pub refusal : Fault → ℕ → Refusal
+refusal fault place = record { fault = fault; place = place }
+
+-- the refusal of a word by itself, if it has one, at this place; else what is said without one
+abbrev pub unless_fault : {A : Type 0} → Option Fault → ℕ → Result A Refusal → Result A Refusal
+unless_fault (Some fault) place next = Err (refusal fault place)
+unless_fault None place next = next
 
 -- the number of no refusal
 abbrev pub no_refusal : ℕ
@@ -32,11 +59,11 @@ refused_with number place vs = record { number = number; place = place; values =
 
 -- a refusal as such an answer
 abbrev pub told : Refusal → Paper
-told r = refused r.number r.place
+told r = refused (number_of r.fault) r.place
 
 -- of a job and a mapping, "1 to 6 also say which of the two is meant": 0 the job, 1 the mapping
 abbrev pub told_of_job : Refusal → Paper
-told_of_job r = refused_with r.number r.place (0 ∷ [])
+told_of_job r = refused_with (number_of r.fault) r.place (0 ∷ [])
 
 abbrev pub told_of_mapping : Refusal → Paper
-told_of_mapping r = refused_with r.number r.place (1 ∷ [])
+told_of_mapping r = refused_with (number_of r.fault) r.place (1 ∷ [])

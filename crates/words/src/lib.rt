@@ -1,34 +1,69 @@
-// 32-bit words: document 01, "Words". The top four bits are the kind; what stands below is the content. And what all crates share: the
-// kinds, a refusal, the values of refusal 10, and the prices.
+// 32-bit words: document 01, "Words". The top four bits are the kind; what stands below is the content. And what all crates share:
+// refusals, the values of refusal 10, and the prices.
 #![tactic(auto)]
 
-ghost use Rattle.std.specs.Prelude.{◌≡◌, ◌<◌, ◌^◌};
-ghost use Rattle.words.specs.Field.{kind_of, content_of, source_function, target_function, word_of};
-ghost use Rattle.words.specs.Kinds.{is_recipe};
+mod kind;
 
-// The kinds of words.
-pub const HEADER: u32 = 1;
+ghost use Rattle.std.specs.Prelude.{◌≡◌};
+ghost use Rattle.words.specs.Field.{content_of, source_function, target_function};
+ghost use Rattle.words.specs.Paper.{number_of};
 
-pub const PRICES: u32 = 2;
+pub use kind::{WordKind, is_recipe, kind_of, word_of};
 
-pub const SOURCE: u32 = 3;
+// Why something is refused, in the order of document 01's numbers: 1 to 12, and 20 to 24 from `NotSound` on.
+#[derive(Clone, Copy, PartialEq, Eq)]
+pub enum Fault {
+    BadLength,
+    OutOfSequence,
+    NotLaidOut,
+    NotRising,
+    ReadsUndriven,
+    OtherOutputs,
+    OtherWidth,
+    NotInJob,
+    Incomplete,
+    WrongRecipe,
+    OtherGlue,
+    Unmappable,
+    NotSound,
+    AlreadyBound,
+    Unbound,
+    TooFewWords,
+    NotBound,
+}
 
-pub const TARGET: u32 = 4;
-
-pub const RULE: u32 = 5;
-
-pub const BINDING: u32 = 6;
-
-pub const GLUE: u32 = 7;
-
-// The number of no refusal.
-pub const NO_REFUSAL: u32 = 0;
-
-// A refusal: its number in document 01, and its place.
+// A refusal: why, and its place.
 #[derive(Clone, Copy)]
 pub struct Refusal {
-    pub number: u32,
+    pub fault: Fault,
     pub place: usize,
+}
+
+// Document 01's number.
+impl From<Fault> for u32 {
+    ghost from_gives = { λ fault number. number ≡ number_of fault };
+
+    fn from(fault: Fault) -> u32 {
+        match fault {
+            Fault::BadLength => 1,
+            Fault::OutOfSequence => 2,
+            Fault::NotLaidOut => 3,
+            Fault::NotRising => 4,
+            Fault::ReadsUndriven => 5,
+            Fault::OtherOutputs => 6,
+            Fault::OtherWidth => 7,
+            Fault::NotInJob => 8,
+            Fault::Incomplete => 9,
+            Fault::WrongRecipe => 10,
+            Fault::OtherGlue => 11,
+            Fault::Unmappable => 12,
+            Fault::NotSound => 20,
+            Fault::AlreadyBound => 21,
+            Fault::Unbound => 22,
+            Fault::TooFewWords => 23,
+            Fault::NotBound => 24,
+        }
+    }
 }
 
 // What comes with refusal 10: the function as refusals write it, the lowest port that differs (0 O0, 1 OCOUT, 2 OVF, 3 O1), and operands
@@ -50,12 +85,6 @@ pub struct Prices {
     pub multiplexer: u8,
 }
 
-pub fn kind_of(word: u32) -> u32
-    ensures { result ≡ kind_of word }
-{
-    word >> 28
-}
-
 // The 28 bits below the kind.
 pub fn content_of(word: u32) -> u32
     ensures { result ≡ content_of word }
@@ -75,22 +104,4 @@ pub fn target_function(word: u32) -> u32
     ensures { result ≡ target_function word }
 {
     content_of(word)
-}
-
-// The word of a kind and a content.
-pub fn word_of(kind: u32, content: u32) -> u32
-    requires { (kind < 2 ^ 4) × (content < 2 ^ 28) }
-    ensures { result ≡ word_of kind content }
-{
-    (kind << 28) | content
-}
-
-// Whether words of this kind hold a recipe.
-pub fn is_recipe(kind: u32) -> bool
-    ensures { result ≡ is_recipe kind }
-{
-    if kind == RULE {
-        return true;
-    }
-    kind == BINDING
 }

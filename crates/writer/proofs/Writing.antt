@@ -14,6 +14,7 @@ use Rattle.words.specs.Paper.{refusal}
 use Rattle.reader.specs.Starts.{bindings_start}
 use Rattle.writer.specs.Write.{binding_word, binding_words, mapping_words, words_needed, written_of, lent_after}
 use Rattle.std.specs.Prelude.{Ok, Err}
+use Rattle.words.specs.declared.Fault.TheVariants.{TooFewWords}
 
 pub bindings_length : (ws : List ℕ) → length (binding_words ws) ≡ length ws
 unfolding binding_words
@@ -48,7 +49,7 @@ glue_written bound i lent whole g w e h l ew =
 -- ---- the answer
 
 module _ (width glue needed : ℕ) (bound lent : List ℕ) (en : needed ≡ words_needed (length bound)) where
-  pub too_few : length lent < needed → Err (refusal 23 needed) ≡ written_of (length bound) lent
+  pub too_few : length lent < needed → Err (refusal TooFewWords needed) ≡ written_of (length bound) lent
   unfolding written_of
   too_few h = rw (← en) (rw (lt-ltb (length lent) needed h) refl)
 

@@ -5,6 +5,7 @@ use Rattle.words.specs.Field.{content_of, word_of}
 use Rattle.words.specs.Kinds.{HEADER, BINDING, GLUE}
 use Rattle.words.specs.Paper.{Paper, refusal, accepted, told}
 use Rattle.words.specs.declared.Refusal.{Refusal}
+use Rattle.words.specs.declared.Fault.TheVariants.{TooFewWords}
 
 -- a rule's recipe as a binding: "rule, binding: a recipe"
 abbrev pub binding_word : ℕ → ℕ
@@ -25,7 +26,7 @@ words_needed sources = sources + 2
 -- "23. Lent words fewer than sources + 2; place: words needed"; else so many words are written
 unfoldable pub written_of : ℕ → List ℕ → Result ℕ Refusal
 written_of sources lent =
-    if ltb (length lent) (words_needed sources) then Err (refusal 23 (words_needed sources)) else Ok (words_needed sources)
+    if ltb (length lent) (words_needed sources) then Err (refusal TooFewWords (words_needed sources)) else Ok (words_needed sources)
 
 -- "Lent words .. stay unchanged; on success words past the written ones do too": `sets lent 0 ws` is lent with ws from its first word on
 unfoldable pub lent_after : List ℕ → List ℕ → List ℕ

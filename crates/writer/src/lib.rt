@@ -6,7 +6,7 @@ ghost use Rattle.sequence.specs.Limits.{most_bindings};
 ghost use Rattle.writer.specs.Asked as Q;
 ghost use Rattle.writer.specs.Write as W;
 
-use words::Refusal;
+use words::{Fault, Refusal, WordKind};
 
 // The words that a mapping of so many bindings takes.
 fn words_needed(sources: usize) -> usize
@@ -20,7 +20,7 @@ fn words_needed(sources: usize) -> usize
 pub fn binding_word(word: u32) -> u32
     ensures { result ≡ W.binding_word word }
 {
-    words::word_of(words::BINDING, words::content_of(word))
+    words::word_of(WordKind::Binding, words::content_of(word))
 }
 
 // Writes the mapping that binds each of these recipes, and answers how many words it has; or refusal 23 with the words needed.
@@ -37,14 +37,14 @@ pub fn write_mapping(
     let needed = words_needed(bound.len());
     if lent.len() < needed {
         return Err(Refusal {
-            number: 23,
+            fault: Fault::TooFewWords,
             place: needed,
         });
     }
-    lent[0] = words::word_of(words::HEADER, width);
+    lent[0] = words::word_of(WordKind::Header, width);
     for (i, word) in bound.iter().enumerate() {
         lent[reader::BINDINGS_START + i] = binding_word(*word);
     }
-    lent[reader::BINDINGS_START + bound.len()] = words::word_of(words::GLUE, glue);
+    lent[reader::BINDINGS_START + bound.len()] = words::word_of(WordKind::Glue, glue);
     Ok(needed)
 }

@@ -1,20 +1,14 @@
 -- `checker::check` meets its contract.
 use Rattle.std.proofs.lemmas.Result.{err_from_is_err_and}
-use Rattle.fitting.proofs.Pairs.{job_read, mapping_read, width_read}
+use Rattle.fitting.proofs.Pairs.{job_read, mapping_read}
 use Rattle.checker.proofs.Rulings.{unread, both_judged}
 use Rattle.checker.proofs.check.Goals as goal
 
-pub sources_of-sources-requires : goal.sources_of-sources-requires
-sources_of-sources-requires c = job_read _ _ _ c.read_pair.ensures _ _ c.in_ok-facts.was
-
-pub targets_of-targets-requires : goal.targets_of-targets-requires
-targets_of-targets-requires c = job_read _ _ _ c.read_pair.ensures _ _ c.in_ok-facts.was
+pub terms_of-terms-requires : goal.terms_of-terms-requires
+terms_of-terms-requires c = job_read _ _ _ c.read_pair.ensures _ _ c.in_ok-facts.was
 
 pub bindings_of-bindings-requires : goal.bindings_of-bindings-requires
 bindings_of-bindings-requires c = mapping_read _ _ _ c.read_pair.ensures _ _ c.in_ok-facts.was
-
-pub judge_mapping-requires : goal.judge_mapping-requires
-judge_mapping-requires c = width_read _ _ _ c.read_pair.ensures _ _ c.in_ok-facts.was
 
 pub returns-in_err-facts : goal.returns-in_err-facts
 returns-in_err-facts c =
@@ -23,5 +17,4 @@ returns-in_err-facts c =
 
 pub returns : goal.returns
 returns c =
-    both_judged _ _ _ c.read_pair.ensures _ _ c.in_ok-facts.was _ _ _ c.sources_of-sources.ensures c.targets_of-targets.ensures
-    c.bindings_of-bindings.ensures _ c.judge_mapping.ensures
+    both_judged _ _ _ c.read_pair.ensures _ _ c.in_ok-facts.was _ _ c.terms_of-terms.ensures c.bindings_of-bindings.ensures _ c.judge_mapping.ensures

@@ -3,7 +3,8 @@ use Prim.Native.Nat.{◌≤◌}
 use native.Mathlib.Omega.{arith}
 use Rattle.sequence.specs.Limits.{most_rules}
 use Rattle.book.specs.Book.{book}
-use Rattle.mapper.proofs.Answering.{job_width, sources_few, rules_few, book-asked, no_book, kept_choice}
+use Rattle.table.specs.Parts.{terms_held}
+use Rattle.mapper.proofs.Answering.{sources_few, rules_few, book-asked, no_book, kept_choice}
 use Rattle.mapper.proofs.choice_of.Goals as goal
 
 book-few : 256 ≤ most_rules
@@ -13,14 +14,14 @@ none-few : 0 ≤ most_rules
 none-few = omega arith
 
 pub choose-requires : goal.choose-requires
-choose-requires c = (search job_width, search sources_few, search (rules_few, book-few, none-few))
+choose-requires c = (sources_few _ _ c.requires (terms_held c.terms_of-terms.result) _ c.terms_of-terms.ensures c.rules_of-rules.ensures, search (rules_few, book-few, none-few))
 
 pub returns-then-job : goal.returns-then-job
 unfolding book
 returns-then-job c = search (kept_choice, book-asked)
 
 pub choose-requires-2 : goal.choose-requires-2
-choose-requires-2 c = (search job_width, search sources_few, search (rules_few, book-few, none-few))
+choose-requires-2 c = (sources_few _ _ c.requires (terms_held c.terms_of-terms.result) _ c.terms_of-terms.ensures c.rules_of-rules.ensures, search (rules_few, book-few, none-few))
 
 pub returns : goal.returns
 returns c = search (kept_choice, no_book)

@@ -1,20 +1,14 @@
 -- `pricer::price` meets its contract.
 use Rattle.std.proofs.lemmas.Result.{err_from_is_err_and}
-use Rattle.fitting.proofs.Pairs.{job_read, mapping_read, width_read}
+use Rattle.fitting.proofs.Pairs.{job_read, mapping_read}
 use Rattle.pricer.proofs.Pricings.{unread, both_priced}
 use Rattle.pricer.proofs.price.Goals as goal
 
-pub sources_of-sources-requires : goal.sources_of-sources-requires
-sources_of-sources-requires c = job_read _ _ _ c.read_pair.ensures _ _ c.in_ok-facts.was
-
-pub targets_of-targets-requires : goal.targets_of-targets-requires
-targets_of-targets-requires c = job_read _ _ _ c.read_pair.ensures _ _ c.in_ok-facts.was
+pub terms_of-terms-requires : goal.terms_of-terms-requires
+terms_of-terms-requires c = job_read _ _ _ c.read_pair.ensures _ _ c.in_ok-facts.was
 
 pub bindings_of-bindings-requires : goal.bindings_of-bindings-requires
 bindings_of-bindings-requires c = mapping_read _ _ _ c.read_pair.ensures _ _ c.in_ok-facts.was
-
-pub price_under-requires : goal.price_under-requires
-price_under-requires c = width_read _ _ _ c.read_pair.ensures _ _ c.in_ok-facts.was
 
 pub returns-in_err-facts : goal.returns-in_err-facts
 returns-in_err-facts c =
@@ -23,5 +17,5 @@ returns-in_err-facts c =
 
 pub returns : goal.returns
 returns c =
-    both_priced _ _ _ c.read_pair.ensures _ _ c.in_ok-facts.was _ _ _ c.sources_of-sources.ensures c.targets_of-targets.ensures c.bindings_of-bindings.ensures _
+    both_priced _ _ _ c.read_pair.ensures _ _ c.in_ok-facts.was _ _ c.terms_of-terms.ensures c.bindings_of-bindings.ensures _
     c.price_under.ensures

@@ -1,5 +1,4 @@
 -- `scan::read_words` meets its contract.
-use borrow.Author.Rules.{rules}
 use Rattle.grammar.proofs.Turns.{turn, stop, at_end, one_more}
 use Rattle.scan.proofs.read_words.Goals as goal
 

@@ -2,8 +2,8 @@
 use Rattle.soundness.proofs.Soundness.{bad_rule, other_source, no_target, by_rightness}
 use Rattle.soundness.proofs.bindable.Goals as goal
 
-pub returns-then-rule_fault-ne-NO_REFUSAL : goal.returns-then-rule_fault-ne-NO_REFUSAL
-returns-then-rule_fault-ne-NO_REFUSAL c = search bad_rule
+pub returns-then-is_some : goal.returns-then-is_some
+returns-then-is_some c = search bad_rule
 
 pub returns-then-source_of-source_function : goal.returns-then-source_of-source_function
 returns-then-source_of-source_function c = search other_source

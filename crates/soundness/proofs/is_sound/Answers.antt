@@ -1,5 +1,6 @@
 -- `soundness::is_sound` meets its contract.
-use Rattle.soundness.proofs.Shapes.{tables_shaped, sources_all, targets_all, sources_fit, sources_taken, targets_fit, targets_taken, sources_within}
+use Rattle.table.specs.Parts.{terms_held}
+use Rattle.soundness.proofs.Shapes.{tables_shaped, sources_all, targets_all, sources_covered, entries_held}
 use Rattle.soundness.proofs.Soundness.{unsound_tables, tables_sources, tables_targets, tables_width, tables_hold, source_past, target_past, unsound_entries, by_count}
 use Rattle.soundness.proofs.is_sound.Goals as goal
 
@@ -30,26 +31,21 @@ slice_bounds-is_empty-end-2 c = search (tables_shaped, targets_all)
 pub returns-then-not-is_empty-2 : goal.returns-then-not-is_empty-2
 returns-then-not-is_empty-2 c = search (tables_shaped, target_past)
 
-pub slice_bounds-sources-end : goal.slice_bounds-sources-end
-slice_bounds-sources-end c = search (tables_shaped, tables_sources, sources_fit)
-
-pub slice_bounds-bound_sound-end : goal.slice_bounds-bound_sound-end
-slice_bounds-bound_sound-end c = search (tables_shaped, tables_sources, sources_taken)
-
-pub slice_bounds-targets-end : goal.slice_bounds-targets-end
-slice_bounds-targets-end c = search (tables_shaped, tables_targets, targets_fit)
-
-pub slice_bounds-bound_sound-end-2 : goal.slice_bounds-bound_sound-end-2
-slice_bounds-bound_sound-end-2 c = search (tables_shaped, tables_targets, targets_taken)
+pub terms-requires : goal.terms-requires
+terms-requires c = (search tables_width, search tables_sources, search tables_targets)
 
 pub bound_sound-requires : goal.bound_sound-requires
-bound_sound-requires c = (search tables_width, search (tables_shaped, tables_sources, sources_within))
+bound_sound-requires c = search (tables_shaped, tables_sources, sources_covered c.args.tables (terms_held c.terms.result) c.terms.ensures)
 
 pub returns-then-not-bound_sound : goal.returns-then-not-bound_sound
-returns-then-not-bound_sound c = search (tables_shaped, unsound_entries)
+returns-then-not-bound_sound c =
+    let e = entries_held c.args.tables (terms_held c.terms.result) c.terms.ensures c.args.bound _ c.bound_sound.ensures in
+    search (tables_shaped, unsound_entries, e)
 
 pub glue_on-requires : goal.glue_on-requires
 glue_on-requires c = search tables_hold
 
 pub returns : goal.returns
-returns c = search (tables_shaped, by_count)
+returns c =
+    let e = entries_held c.args.tables (terms_held c.terms.result) c.terms.ensures c.args.bound _ c.bound_sound.ensures in
+    search (tables_shaped, by_count, e)

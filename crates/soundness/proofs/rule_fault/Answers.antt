@@ -1,9 +1,7 @@
 -- `soundness::rule_fault` meets its contract.
-use Rattle.soundness.proofs.Soundness.{no_rule_lem, a_rule}
+use mathlib.Core.Path.{sym, ◌∙◌}
+use Rattle.soundness.proofs.Soundness.{other_named}
 use Rattle.soundness.proofs.rule_fault.Goals as goal
 
-pub returns-then-kind_of-ne-RULE : goal.returns-then-kind_of-ne-RULE
-returns-then-kind_of-ne-RULE c = search no_rule_lem
-
-pub returns : goal.returns
-returns c = search a_rule
+pub returns-in_default-kind : goal.returns-in_default-kind
+returns-in_default-kind c = other_named _ _ (sym c.kind_of.ensures ∙ c.in-Some.is) c.in_default-kind.not-Rule

@@ -1,12 +1,7 @@
 -- `text::put_labelled` meets its contract.
-use Rattle.text.proofs.Joined.{after-put}
 use Rattle.text.specs.Text.{labelled}
-use borrow.Author.Rules.{rules}
+use Rattle.text.proofs.Joined.{after-put}
 use Rattle.text.proofs.put_labelled.Goals as goal
-
-pub returns-clause-short : goal.returns-clause-short
-unfolding labelled
-returns-clause-short c = search rules
 
 pub returns-clause-text : goal.returns-clause-text
 unfolding labelled

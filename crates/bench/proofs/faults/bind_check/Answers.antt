@@ -8,8 +8,8 @@ returns-in_err-sound c =
     let p = err_from_is_err_and c.from_residual.result c.from_residual.ensures.1 in
     rw (p.1, p.2) (bind_unsound _ _ c.sound.ensures _ _ c.in_err-sound.was)
 
-pub returns-then-fault-ne-NO_REFUSAL : goal.returns-then-fault-ne-NO_REFUSAL
-returns-then-fault-ne-NO_REFUSAL c = search (bad_word, c.in_ok-sound.was)
+pub returns-in-Some : goal.returns-in-Some
+returns-in-Some c = search (bad_word, c.in_ok-sound.was)
 
 pub in_tables-requires : goal.in_tables-requires
 in_tables-requires c = search (passed_tables, c.in_ok-sound.was)

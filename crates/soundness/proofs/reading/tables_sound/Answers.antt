@@ -1,6 +1,9 @@
 -- `soundness::reading::tables_sound` meets its contract.
+use mathlib.Core.Path.{sym, ◌∙◌}
 use borrow.Author.Rules.{rules}
-use Rattle.soundness.proofs.Shapes.{tables_shaped, sources_fit, sources_taken, sources_few, targets_fit, targets_taken, targets_few}
+use Rattle.alu.proofs.Shown.{width_of}
+use Rattle.table.specs.Parts.{terms_held}
+use Rattle.soundness.proofs.Shapes.{tables_shaped, sources_held, targets_held, words_held}
 use Rattle.soundness.proofs.Soundness.{no_width, many_sources, many_targets, header_fits_lem, tables_read}
 use Rattle.soundness.proofs.reading.tables_sound.Goals as goal
 
@@ -14,22 +17,18 @@ pub returns-then-tables-gt-MOST_TARGETS : goal.returns-then-tables-gt-MOST_TARGE
 returns-then-tables-gt-MOST_TARGETS c = search many_targets
 
 pub word_of-header-requires : goal.word_of-header-requires
-word_of-header-requires c = (search rules, search header_fits_lem)
+word_of-header-requires c = search header_fits_lem
 
-pub slice_bounds-sources-end : goal.slice_bounds-sources-end
-slice_bounds-sources-end c = search (tables_shaped, sources_fit)
-
-pub slice_bounds-read_tables-end : goal.slice_bounds-read_tables-end
-slice_bounds-read_tables-end c = search (tables_shaped, sources_taken)
-
-pub slice_bounds-targets-end : goal.slice_bounds-targets-end
-slice_bounds-targets-end c = search (tables_shaped, targets_fit)
-
-pub slice_bounds-read_tables-end-2 : goal.slice_bounds-read_tables-end-2
-slice_bounds-read_tables-end-2 c = search (tables_shaped, targets_taken)
+pub terms-terms-requires : goal.terms-terms-requires
+terms-terms-requires c = (width_of _ (sym c.is_width.ensures ∙ c.if-not-is_width.false), search rules, search rules)
 
 pub read_tables-read-requires : goal.read_tables-read-requires
-read_tables-read-requires c = (search (tables_shaped, sources_few), search (tables_shaped, targets_few))
+read_tables-read-requires c = (
+  search (tables_shaped, sources_held c.args.tables (terms_held c.terms-terms.result) c.terms-terms.ensures),
+  search (tables_shaped, targets_held c.args.tables (terms_held c.terms-terms.result) c.terms-terms.ensures),
+)
 
 pub returns : goal.returns
-returns c = search tables_read
+returns c =
+    let e = c.read_tables-read.ensures ∙ words_held c.args.tables (terms_held c.terms-terms.result) c.terms-terms.ensures _ _ in
+    search (tables_read, e)
