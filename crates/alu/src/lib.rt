@@ -5,11 +5,10 @@ ghost use Rattle.std.specs.Prelude.{◌≡◌};
 ghost use Rattle.alu.specs.Function as F;
 ghost use Rattle.alu.specs.Range as R;
 ghost use Rattle.alu.specs.Evaluate as E;
-ghost use Rattle.bits.specs.Asked as Q;
 
 use bits::{
-    CARRY_ONE, CARRY_ZERO, I0, I1, ICIN, NOT_I0, NOT_I1, ONES, Ports, ZEROS, compared, logic_word,
-    ones, sum,
+    CARRY_ONE, CARRY_ZERO, I0, I1, ICIN, NOT_I0, NOT_I1, ONES, Operands, Ports, Width, ZEROS,
+    carried, compared, logic_word, ones, sum, wired,
 };
 use words::{Fault, Refusal};
 
@@ -170,23 +169,24 @@ pub fn drives(kind: Kind) -> PortSet
 
 // The four ports of a function.
 #[tactic(auto, unfolding(crate::specs::Function::ports))]
-pub fn ports_of(kind: Kind, n: u32, left: u64, right: u64, carry: bool) -> Ports
-    requires { Q.Operands n left right }
-    ensures { result ≡ F.ports kind n left right carry }
+pub fn ports_of(kind: Kind, operands: Operands, carry: bool) -> Ports
+    ensures { result ≡ F.ports kind operands.width.n operands.left operands.right carry }
 {
     match kind {
         Kind::Arithmetic {
-            left: p,
-            right: q,
-            carry: k,
-        } => sum(
-            n,
-            bits::wired(n, p, left, right),
-            bits::wired(n, q, left, right),
-            bits::carried(k, carry),
-        ),
+            left,
+            right,
+            carry: code,
+        } => {
+            let addends = Operands {
+                width: operands.width,
+                left: wired(operands, left),
+                right: wired(operands, right),
+            };
+            sum(addends, carried(code, carry))
+        }
         Kind::Logic(vector) => Ports {
-            o0: logic_word(n, vector, left, right),
+            o0: logic_word(operands, vector),
             ocout: false,
             ovf: false,
             o1: false,
@@ -199,7 +199,7 @@ pub fn ports_of(kind: Kind, n: u32, left: u64, right: u64, carry: bool) -> Ports
             o0: 0,
             ocout: false,
             ovf: false,
-            o1: compared(n, less, equal, greater, left, right),
+            o1: compared(operands, less, equal, greater),
         },
     }
 }
@@ -215,10 +215,11 @@ fn first_out_of_range(function: u32, width: u32, left: u64, right: u64, carry: u
     if !is_width(width) {
         return Some(1);
     }
-    if ones(width) < left {
+    let greatest = ones(Width { n: width });
+    if greatest < left {
         return Some(2);
     }
-    if ones(width) < right {
+    if greatest < right {
         return Some(3);
     }
     if 1 < carry {
@@ -243,6 +244,13 @@ pub fn evaluate(
             fault: Fault::NotLaidOut,
             place,
         }),
-        None => Ok(ports_of(function_of(function), width, left, right, carry == 1)),
+        None => {
+            let operands = Operands {
+                width: Width { n: width },
+                left,
+                right,
+            };
+            Ok(ports_of(function_of(function), operands, carry == 1))
+        }
     }
 }

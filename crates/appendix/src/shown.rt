@@ -1,7 +1,7 @@
 // What a recipe and its source function show at operands: by the library, and by the reference.
 ghost use Rattle.std.specs.Prelude.{◌≤◌};
 
-use bits::Ports;
+use bits::{Ports, Width};
 use reference::evaluator::{Operands, Shown, evaluate};
 use reference::recipe::{Port, fields_of, recipe_shows};
 
@@ -31,17 +31,23 @@ fn of_ports(ports: Ports) -> Shown {
 pub fn by_library(word: u32, n: u32, at: Operands) -> Both
     requires { (1 ≤ n) × (n ≤ 8) }
 {
-    let most = bits::ones(n);
+    let width = Width { n };
+    let most = bits::ones(width);
     if (at.left > most) || (at.right > most) {
         return by_reference(0, 0, at);
     }
     let claim = binding::claim_of(word);
     let source = claim.source;
     let recipe = claim.recipe;
+    let operands = bits::Operands {
+        width,
+        left: at.left,
+        right: at.right,
+    };
     let carry = at.carry == 1;
     Both {
-        source: of_ports(binding::side_shows(source, n, at.left, at.right, carry)),
-        recipe: of_ports(binding::shows(recipe, n, at.left, at.right, carry)),
+        source: of_ports(binding::side_shows(source, operands, carry)),
+        recipe: of_ports(binding::shows(recipe, operands, carry)),
     }
 }
 

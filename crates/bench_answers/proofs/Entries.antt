@@ -1,64 +1,40 @@
--- The lines of a bench's entries put one after the other: putting those that are left gives the whole text.
-use mathlib.Core.Path.{◌≡◌, refl, sym, subst}
-use mathlib.Core.List.{List, []}
+-- The lines of a bench's entries put one after the other: what stands, with the lines that are left, is the whole text.
+use mathlib.Core.Path.{◌≡◌, sym, ap, ◌∙◌}
+use mathlib.Core.List.{List, ◌++◌, append_assoc, append-nil}
 use Prim.Native.Nat.{ℕ, ◌+◌, ◌≤◌, ◌<◌}
 use native.Mathlib.Omega.{arith}
-use borrow.Author.Tests.{eq-eqb, ne_eqb}
 use lib.ListN.{length, drop, get_or, drop_of_length-le}
-use lib.Seq.{sets, take_all}
-use Rattle.words.specs.Field.{source_function}
+use lib.Seq.{take_all}
 use Rattle.words.proofs.Lists.{drop-next}
-use Rattle.text.specs.Text.{Puts, bytes, name_of}
-use Rattle.text.proofs.Joined.{after-put, rest_puts}
-use Rattle.listing.specs.Listing.{binding_line}
-use Rattle.writer.specs.Write.{binding_word}
+use Rattle.text.specs.Text.{room}
 use Rattle.sequence.specs.Limits.{most_sources}
-use Rattle.soundness.specs.Sound.{nothing, sources_on}
+use Rattle.soundness.specs.Sound.{sources_on}
 use Rattle.soundness.proofs.Shapes.{sources_fit, sources_taken}
 use Rattle.bench.specs.Shape.{Shaped}
 use Rattle.bench.specs.declared.Bench.{Bench}
 use Rattle.bench_answers.specs.Answers.{entry_line, entry_lines, bench_text}
 use Rattle.bench_answers.specs.Asked.{most_text_bytes, EntryRoom}
 
--- ---- one entry
-
-module _ (source word : ℕ) (out after : List ℕ) (at end : ℕ) where
-  pub nothing_bound : (f m : ℕ) (named : List ℕ) → word ≡ nothing → f ≡ source_function source → Puts out at (name_of f) named m
-      → Puts named m (bytes " -\n") after end → Puts out at (entry_line source word) after end
-  nothing_bound f m named e q p r =
-      rw (eq-eqb word nothing e) (after-put (subst (λ (g : ℕ). Puts out at (name_of g) named m) q p) r)
-
-  pub something_bound : (w : ℕ) → (word ≡ nothing → ⊥) → w ≡ binding_word word → Puts out at (binding_line w) after end
-      → Puts out at (entry_line source word) after end
-  something_bound w h q p = rw (ne_eqb word nothing h) (subst (λ (v : ℕ). Puts out at (binding_line v) after end) q p)
-
 -- ---- all of them
 
-module _ (sources bound out whole : List ℕ) (i at end : ℕ)
-    (e : Puts out at (entry_lines (drop i sources) (drop i bound)) whole end) (l : length sources ≤ length bound) where
-  pub one_entry : (after : List ℕ) (next : ℕ) → i < length sources → Puts out at (entry_line (get_or sources i 0) (get_or bound i 0)) after next
-      → Puts after next (entry_lines (drop (i + 1) sources) (drop (i + 1) bound)) whole end
+module _ (sources bound text whole : List ℕ) (i : ℕ) (e : text ++ entry_lines (drop i sources) (drop i bound) ≡ whole) where
+  pub one_entry : (after : List ℕ) → length sources ≤ length bound → i < length sources
+      → after ≡ text ++ entry_line (get_or sources i 0) (get_or bound i 0)
+      → after ++ entry_lines (drop (i + 1) sources) (drop (i + 1) bound) ≡ whole
   unfolding entry_lines
-  one_entry after next h p = rest_puts (rw (drop-next sources i h, drop-next bound i (omega arith)) at e) p
+  one_entry after l h p =
+      let rest = entry_lines (drop (i + 1) sources) (drop (i + 1) bound) in
+      ap (λ (a : List ℕ). a ++ rest) p ∙ append_assoc text (entry_line (get_or sources i 0) (get_or bound i 0)) rest
+      ∙ rw (drop-next sources i h, drop-next bound i (omega arith)) at e
 
-pub all_left : (sources bound out : List ℕ)
-    → Puts out 0 (entry_lines sources bound) (sets out 0 (entry_lines sources bound)) (length (entry_lines sources bound))
-all_left sources bound out = record { ends = omega arith; put = refl }
-
-pub all_entries : (sources bound start out : List ℕ) (i at : ℕ)
-    → Puts out at (entry_lines (drop i sources) (drop i bound)) (sets start 0 (entry_lines sources bound)) (length (entry_lines sources bound))
-    → length sources ≤ i → Puts start 0 (entry_lines sources bound) out at
-unfolding entry_lines
-all_entries sources bound start out i at e h =
-    let f : Puts out at [] (sets start 0 (entry_lines sources bound)) (length (entry_lines sources bound)) =
-    rw (drop_of_length-le sources h) at e
-    in
-    record { ends = omega (arith, f.ends); put = sym f.put }
+  pub all_entries : length sources ≤ i → text ≡ whole
+  unfolding entry_lines
+  all_entries h = sym (append-nil text) ∙ rw (drop_of_length-le sources h) at e
 
 -- ---- a bench
 
-module _ (b : Bench) (h : Shaped b) (out : List ℕ) where
-  pub full_room : most_text_bytes ≤ length out → EntryRoom b.tables.sources b.bound out
+module _ (b : Bench) (h : Shaped b) (text : List ℕ) where
+  pub full_room : length text + most_text_bytes ≤ room → EntryRoom b.tables.sources b.bound text
   full_room r =
       record {
         entries = omega (arith, h.bound_entries, h.tables_shaped.sources_entries);
@@ -66,11 +42,10 @@ module _ (b : Bench) (h : Shaped b) (out : List ℕ) where
       }
 
   -- a table that is full
-  pub full_table : (after : List ℕ) (end : ℕ) → most_sources < b.tables.nsources
-      → Puts out 0 (entry_lines b.tables.sources b.bound) after end → Puts out 0 (bench_text b) after end
-  full_table after end l p =
-      subst (λ (s : List ℕ). Puts out 0 (entry_lines s b.bound) after end)
-      (sym (take_all b.tables.nsources b.tables.sources (omega (arith, h.tables_shaped.sources_entries)))) p
+  pub full_table : (new : List ℕ) → most_sources < b.tables.nsources → new ≡ text ++ entry_lines b.tables.sources b.bound → new ≡ text ++ bench_text b
+  full_table new l p =
+      p ∙ ap (λ (s : List ℕ). text ++ entry_lines s b.bound)
+      (sym (take_all b.tables.nsources b.tables.sources (omega (arith, h.tables_shaped.sources_entries))))
 
   module _ (few : b.tables.nsources ≤ most_sources) where
     pub few_fit : b.tables.nsources ≤ length b.tables.sources
@@ -79,5 +54,5 @@ module _ (b : Bench) (h : Shaped b) (out : List ℕ) where
     pub few_taken : b.tables.nsources ≡ length (sources_on b.tables)
     few_taken = sources_taken b.tables h.tables_shaped few
 
-    pub few_room : most_text_bytes ≤ length out → EntryRoom (sources_on b.tables) b.bound out
+    pub few_room : length text + most_text_bytes ≤ room → EntryRoom (sources_on b.tables) b.bound text
     few_room r = record { entries = omega (arith, h.bound_entries, few_taken); lines = omega (arith, few_taken) }

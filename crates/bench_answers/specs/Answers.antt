@@ -1,9 +1,9 @@
 -- What work_bench says of its job's file and of each command: OPENED, BOUND, RELEASED, map_job's lines, GLUE and the count, or the refusal.
-use Rattle.std.specs.Prelude.{ℕ, Option, None, Some, ◌≡◌, Bool, true, false, List, [], ◌∷◌, ◌++◌, Result, Ok, Err, eqb, take, if◌then◌else◌, ⊤, is_ok}
+use Rattle.std.specs.Prelude.{ℕ, Option, None, Some, ◌≡◌, List, [], ◌∷◌, ◌++◌, Result, Ok, Err, eqb, take, if◌then◌else◌, ⊤, is_ok}
 use Rattle.std.specs.Result.{result_unwrap_or}
 use Rattle.words.specs.Field.{source_function}
 use Rattle.words.specs.Paper.{refusal}
-use Rattle.text.specs.Text.{Puts, bytes, name_of}
+use Rattle.text.specs.Text.{bytes, name_of}
 use Rattle.lines.specs.Lines.{refused_line, wrong_line}
 use Rattle.listing.specs.Listing.{binding_line, glue_line, mapped_text}
 use Rattle.writer.specs.Write.{binding_word}
@@ -17,7 +17,6 @@ use Rattle.bench.specs.declared.Bench.{Bench}
 use Rattle.bench.specs.declared.After.{After}
 use Rattle.bench.specs.declared.CallError.{CallError}
 use Rattle.bench.specs.declared.CallError.TheVariants.{Refused, Wrong}
-use Rattle.bench_answers.specs.declared.Opened.{Opened}
 use Rattle.bench_answers.specs.declared.Worked.{Worked}
 use Rattle.words.specs.declared.Fault.TheVariants.{OutOfSequence}
 
@@ -40,10 +39,10 @@ written_text lent n = mapped_text (take n lent)
 abbrev pub words_finished : Result ℕ CallError → ℕ
 words_finished answer = result_unwrap_or answer 0
 
--- the text of a call's answer is put, and the bench that came back is handed on
-pub record SaysCall {A : Type 0} (call : After A) (given : A → List ℕ) (words : ℕ) (out after : List ℕ) (r : Worked) : Type 0 where
+-- the text of a call's answer stands behind what stood before, and the bench that came back is handed on
+pub record SaysCall {A : Type 0} (call : After A) (given : A → List ℕ) (words : ℕ) (old new : List ℕ) (r : Worked) : Type 0 where
   pub next : r.bench ≡ call.bench
-  pub text : Puts out 0 (answer_text given call.answer) after r.bytes
+  pub text : new ≡ old ++ answer_text given call.answer
   pub counted : r.words ≡ words
 
 -- ---- the job's file: "a last word cut short is 2 at its index, before all else"
@@ -51,22 +50,18 @@ pub record SaysCall {A : Type 0} (call : After A) (given : A → List ℕ) (word
 unfoldable pub open_input : List ℕ → Input → After ⊤
 open_input job input = if input.cut then refuses bench_of_zeros (refusal OutOfSequence input.whole) else open_of job
 
--- a file that could not be read is not opened, and nothing is put
-abbrev pub not_opened : Opened
-not_opened = record { bench = None; bytes = 0 }
-
 -- the bench, of a job that is opened
 abbrev pub opened_bench : After ⊤ → Option Bench
 opened_bench call = if is_ok call.answer then Some call.bench else None
 
-pub record SaysOpened (call : After ⊤) (out after : List ℕ) (r : Opened) : Type 0 where
-  pub opens : r.bench ≡ opened_bench call
-  pub text : Puts out 0 (answer_text (λ _. bytes "OPENED\n") call.answer) after r.bytes
+pub record SaysOpened (call : After ⊤) (old new : List ℕ) (r : Option Bench) : Type 0 where
+  pub opens : r ≡ opened_bench call
+  pub text : new ≡ old ++ answer_text (λ _. bytes "OPENED\n") call.answer
 
--- by whether the file was read
-abbrev pub SaysInput : List ℕ → Result Input Failed → List ℕ → List ℕ → Opened → Type 0
-SaysInput job (Err e) out after r = (r ≡ not_opened) × (after ≡ out)
-SaysInput job (Ok input) out after r = SaysOpened (open_input job input) out after r
+-- by whether the file was read: one that could not be read is not opened, and nothing is put
+abbrev pub SaysInput : List ℕ → Result Input Failed → List ℕ → List ℕ → Option Bench → Type 0
+SaysInput job (Err e) old new r = (r ≡ None) × (new ≡ old)
+SaysInput job (Ok input) old new r = SaysOpened (open_input job input) old new r
 
 -- ---- show: a line for each source, as map_job prints a binding, or its name and " -"
 
@@ -85,34 +80,34 @@ bench_text b = entry_lines (sources_on b.tables) b.bound
 -- ---- a command
 
 -- a text that no call answers; the bench stays
-pub record SaysText (text out after : List ℕ) (b : Bench) (r : Worked) : Type 0 where
+pub record SaysText (text old new : List ℕ) (b : Bench) (r : Worked) : Type 0 where
   pub same_bench : r.bench ≡ b
-  pub says : Puts out 0 text after r.bytes
+  pub says : new ≡ old ++ text
   pub no_words : r.words ≡ 0
 
 -- a bind: of a wrong recipe the operands and the carry are the program's choice
-pub record SaysBind (b : Bench) (word : ℕ) (out after : List ℕ) (r : Worked) : Type 0 where
+pub record SaysBind (b : Bench) (word : ℕ) (old new : List ℕ) (r : Worked) : Type 0 where
   pub call : After ⊤
   pub binds : Binds b word call
-  pub said : SaysCall call (λ _. bytes "BOUND\n") 0 out after r
+  pub said : SaysCall call (λ _. bytes "BOUND\n") 0 old new r
 
 -- a finish, and the lent words afterwards
 abbrev pub SaysFinish : Bench → List ℕ → List ℕ → List ℕ → List ℕ → Worked → Type 0
-SaysFinish b lent lent_after out after r =
+SaysFinish b lent lent_after old new r =
     (lent_after ≡ lent_after_finish b lent)
-    × SaysCall (finish_of b lent) (written_text (lent_after_finish b lent)) (words_finished (finish_of b lent).answer) out after r
+    × SaysCall (finish_of b lent) (written_text (lent_after_finish b lent)) (words_finished (finish_of b lent).answer) old new r
 
 -- what a command says, and the lent words afterwards
 abbrev pub SaysCommand : Command → Bench → List ℕ → List ℕ → List ℕ → List ℕ → Worked → Type 0
-SaysCommand command.Pass b lent lent_after out after r = (lent_after ≡ lent) × SaysText [] out after b r
-SaysCommand (command.Bind w) b lent lent_after out after r = (lent_after ≡ lent) × SaysBind b w out after r
-SaysCommand (command.Release f) b lent lent_after out after r =
-    (lent_after ≡ lent) × SaysCall (release_of b f) (λ _. bytes "RELEASED\n") 0 out after r
-SaysCommand command.Price b lent lent_after out after r = (lent_after ≡ lent) × SaysCall (price_of b) glue_line 0 out after r
-SaysCommand command.Show b lent lent_after out after r = (lent_after ≡ lent) × SaysText (bench_text b) out after b r
-SaysCommand command.Finish b lent lent_after out after r = SaysFinish b lent lent_after out after r
+SaysCommand command.Pass b lent lent_after old new r = (lent_after ≡ lent) × SaysText [] old new b r
+SaysCommand (command.Bind w) b lent lent_after old new r = (lent_after ≡ lent) × SaysBind b w old new r
+SaysCommand (command.Release f) b lent lent_after old new r =
+    (lent_after ≡ lent) × SaysCall (release_of b f) (λ _. bytes "RELEASED\n") 0 old new r
+SaysCommand command.Price b lent lent_after old new r = (lent_after ≡ lent) × SaysCall (price_of b) glue_line 0 old new r
+SaysCommand command.Show b lent lent_after old new r = (lent_after ≡ lent) × SaysText (bench_text b) old new b r
+SaysCommand command.Finish b lent lent_after old new r = SaysFinish b lent lent_after old new r
 
 -- what a line says
 abbrev pub Says : Option Command → Bench → List ℕ → List ℕ → List ℕ → List ℕ → Worked → Type 0
-Says (Some c) b lent lent_after out after r = SaysCommand c b lent lent_after out after r
-Says None b lent lent_after out after r = (lent_after ≡ lent) × SaysText (bytes "NOT A COMMAND\n") out after b r
+Says (Some c) b lent lent_after old new r = SaysCommand c b lent lent_after old new r
+Says None b lent lent_after old new r = (lent_after ≡ lent) × SaysText (bytes "NOT A COMMAND\n") old new b r

@@ -1,8 +1,8 @@
-// What work_bench says: the answer to its job's file and to each command, all lines of it, put into lent bytes.
+// What work_bench says: the answer to its job's file and to each command, all lines of it, put behind what stands of a text.
 #![tactic(auto)]
 
-ghost use Rattle.std.specs.Prelude.{◌≡◌, ◌+◌, ◌≤◌, length};
-ghost use Rattle.text.specs.Text as P;
+ghost use Rattle.std.specs.Prelude.{◌≡◌, ◌+◌, ◌≤◌, ◌++◌, length};
+ghost use Rattle.text.specs.Text.{room};
 ghost use Rattle.lines.specs.Lines.{most_line_bytes};
 ghost use Rattle.bench.specs.Calls as B;
 ghost use Rattle.listing.specs.Listing as L;
@@ -15,174 +15,141 @@ use console::Failed;
 use input::Input;
 use sequence::MOST_SOURCES;
 use soundness::NOTHING;
+use text::Text;
 use words::{Fault, Refusal};
 
-// The most bytes of a text: a line for each word of a mapping, and room for the longest line.
-pub const MOST_TEXT_BYTES: usize = listing::MOST_BINDING_BYTES * sequence::MOST_MAPPING_WORDS
-    + lines::MOST_LINE_BYTES;
-
-// The bench of a job's file, if it was opened, and how many bytes of text were put.
-#[derive(Clone, Copy)]
-pub struct Opened {
-    pub bench: Option<Bench>,
-    pub bytes: usize,
-}
-
-// The bench after a command, how many bytes of text were put, and how many words of a mapping were written.
+// The bench after a command, and how many words of a mapping were written.
 #[derive(Clone, Copy)]
 pub struct Worked {
     pub bench: Bench,
-    pub bytes: usize,
     pub words: usize,
 }
 
 // The text of a refusal.
-fn put_error(error: CallError, out: &mut [u8]) -> usize
-    requires { most_line_bytes ≤ length out.old }
-    ensures short { result ≤ most_line_bytes }
-    ensures text { P.Puts out.old 0 (S.error_text error) out.new result }
+fn put_error(error: CallError, text: &mut Text)
+    requires { length text.old + most_line_bytes ≤ room }
+    ensures { text.new ≡ text.old ++ S.error_text error }
 {
     match error {
-        CallError::Refused(refusal) => lines::refused_line(refusal, out),
-        CallError::Wrong(witness) => lines::wrong_line(witness, out),
+        CallError::Refused(refusal) => lines::refused_line(refusal, text),
+        CallError::Wrong(witness) => lines::wrong_line(witness, text),
     }
 }
 
 // The text of an answer, with what is said where the call is done.
-fn put_done(answer: Result<(), CallError>, done: &[u8], out: &mut [u8]) -> usize
-    requires { Q.LineRoom done.now out.old }
-    ensures fits { result ≤ length out.old }
-    ensures text { P.Puts out.old 0 (S.answer_text (λ _. done.now) answer) out.new result }
+fn put_done(answer: Result<(), CallError>, done: &[u8], text: &mut Text)
+    requires { Q.LineRoom done.now text.old }
+    ensures { text.new ≡ text.old ++ S.answer_text (λ _. done.now) answer }
 {
     match answer {
-        Ok(()) => text::put(done, out, 0),
-        Err(error) => put_error(error, out),
+        Ok(()) => text.put(done),
+        Err(error) => put_error(error, text),
     }
 }
 
 // The text of a price.
-fn put_count(answer: Result<u32, CallError>, out: &mut [u8]) -> usize
-    requires { Q.most_text_bytes ≤ length out.old }
-    ensures fits { result ≤ length out.old }
-    ensures text { P.Puts out.old 0 (S.answer_text L.glue_line answer) out.new result }
+fn put_count(answer: Result<u32, CallError>, text: &mut Text)
+    requires { length text.old + most_line_bytes ≤ room }
+    ensures { text.new ≡ text.old ++ S.answer_text L.glue_line answer }
 {
     match answer {
-        Ok(count) => listing::glue_line(count, out, 0),
-        Err(error) => put_error(error, out),
+        Ok(count) => listing::glue_line(count, text),
+        Err(error) => put_error(error, text),
     }
 }
 
 // The text of the mapping that a finish wrote into lent words.
-fn put_mapping(answer: Result<usize, CallError>, lent: &[u32], out: &mut [u8]) -> usize
-    requires { Q.MappingRoom answer lent.now out.old }
-    ensures fits { result ≤ length out.old }
-    ensures text { P.Puts out.old 0 (S.answer_text (S.written_text lent.now) answer) out.new result }
+fn put_mapping(answer: Result<usize, CallError>, lent: &[u32], text: &mut Text)
+    requires { Q.MappingRoom answer lent.now text.old }
+    ensures { text.new ≡ text.old ++ S.answer_text (S.written_text lent.now) answer }
 {
     match answer {
-        Ok(count) => listing::put_mapping(&lent[..count], out),
-        Err(error) => put_error(error, out),
+        Ok(count) => listing::put_mapping(&lent[..count], text),
+        Err(error) => put_error(error, text),
     }
 }
 
 // What is said of a bind or a release.
-fn say(call: After<()>, done: &[u8], out: &mut [u8]) -> Worked
-    requires { Q.LineRoom done.now out.old }
-    ensures fits { result.bytes ≤ length out.old }
-    ensures said { S.SaysCall call (λ _. done.now) 0 out.old out.new result }
+fn say(call: After<()>, done: &[u8], text: &mut Text) -> Worked
+    requires { Q.LineRoom done.now text.old }
+    ensures { S.SaysCall call (λ _. done.now) 0 text.old text.new result }
 {
-    let bytes = put_done(call.answer, done, out);
-    let bench = call.bench;
+    put_done(call.answer, done, text);
     Worked {
-        bench,
-        bytes,
+        bench: call.bench,
         words: 0,
     }
 }
 
 // What is said of a price.
-fn price(bench: Bench, out: &mut [u8]) -> Worked
-    requires { Q.most_text_bytes ≤ length out.old }
-    ensures fits { result.bytes ≤ length out.old }
-    ensures said { S.SaysCall (B.price_of bench) L.glue_line 0 out.old out.new result }
+fn price(bench: Bench, text: &mut Text) -> Worked
+    requires { length text.old + most_line_bytes ≤ room }
+    ensures { S.SaysCall (B.price_of bench) L.glue_line 0 text.old text.new result }
 {
     let call = bench.price();
-    let bytes = put_count(call.answer, out);
-    let bench = call.bench;
+    put_count(call.answer, text);
     Worked {
-        bench,
-        bytes,
+        bench: call.bench,
         words: 0,
     }
 }
 
 // The line of a source: what is bound to it, or that nothing is.
-fn entry_line(source: u32, word: u32, out: &mut [u8], at: usize) -> usize
-    requires { at + L.most_binding_bytes ≤ length out.old }
-    ensures short { result ≤ at + L.most_binding_bytes }
-    ensures text { P.Puts out.old at (S.entry_line source word) out.new result }
+fn entry_line(source: u32, word: u32, text: &mut Text)
+    requires { length text.old + L.most_binding_bytes ≤ room }
+    ensures short { length text.new ≤ length text.old + L.most_binding_bytes }
+    ensures text { text.new ≡ text.old ++ S.entry_line source word }
 {
     if word == NOTHING {
-        let name = text::put_name(words::source_function(source), out, at);
-        return text::put(b" -\n", out, name);
+        text.put_name(words::source_function(source));
+        text.put(b" -\n");
+        return;
     }
-    listing::binding_line(writer::binding_word(word), out, at)
+    listing::binding_line(writer::binding_word(word), text);
 }
 
 // The lines of sources, with what is bound in the entry of each.
-fn put_entries(sources: &[u32], bound: &[u32], out: &mut [u8]) -> usize
-    requires { Q.EntryRoom sources.now bound.now out.old }
-    ensures fits { result ≤ length out.old }
-    ensures text { P.Puts out.old 0 (S.entry_lines sources.now bound.now) out.new result }
+fn put_entries(sources: &[u32], bound: &[u32], text: &mut Text)
+    requires { Q.EntryRoom sources.now bound.now text.old }
+    ensures { text.new ≡ text.old ++ S.entry_lines sources.now bound.now }
 {
-    let mut at = 0;
     for (i, source) in sources.iter().enumerate() {
-        at = entry_line(*source, bound[i], out, at);
+        entry_line(*source, bound[i], text);
     }
-    at
 }
 
 // A line for each source of a bench.
-fn put_bench(bench: Bench, out: &mut [u8]) -> usize
-    requires { Q.most_text_bytes ≤ length out.old }
-    ensures fits { result ≤ length out.old }
-    ensures text { P.Puts out.old 0 (S.bench_text bench) out.new result }
+fn put_bench(bench: Bench, text: &mut Text)
+    requires { length text.old + Q.most_text_bytes ≤ room }
+    ensures { text.new ≡ text.old ++ S.bench_text bench }
 {
     let tables = bench.tables;
     let sources = tables.sources;
     let nsources = tables.nsources as usize;
     let bound = bench.bound;
     if MOST_SOURCES < nsources {
-        return put_entries(&sources, &bound, out);
+        put_entries(&sources, &bound, text);
+        return;
     }
-    put_entries(&sources[..nsources], &bound, out)
+    put_entries(&sources[..nsources], &bound, text);
 }
 
 // A text that no call answers.
-fn say_text(bench: Bench, text: &[u8], out: &mut [u8]) -> Worked
-    requires { length text.now ≤ length out.old }
-    ensures fits { result.bytes ≤ length out.old }
-    ensures said { S.SaysText text.now out.old out.new bench result }
+fn say_text(bench: Bench, said: &[u8], text: &mut Text) -> Worked
+    requires { length text.old + length said.now ≤ room }
+    ensures { S.SaysText said.now text.old text.new bench result }
 {
-    let bytes = text::put(text, out, 0);
-    Worked {
-        bench,
-        bytes,
-        words: 0,
-    }
+    text.put(said);
+    Worked { bench, words: 0 }
 }
 
 // What is bound, shown.
-fn show(bench: Bench, out: &mut [u8]) -> Worked
-    requires { Q.most_text_bytes ≤ length out.old }
-    ensures fits { result.bytes ≤ length out.old }
-    ensures said { S.SaysText (S.bench_text bench) out.old out.new bench result }
+fn show(bench: Bench, text: &mut Text) -> Worked
+    requires { length text.old + Q.most_text_bytes ≤ room }
+    ensures { S.SaysText (S.bench_text bench) text.old text.new bench result }
 {
-    let bytes = put_bench(bench, out);
-    Worked {
-        bench,
-        bytes,
-        words: 0,
-    }
+    put_bench(bench, text);
+    Worked { bench, words: 0 }
 }
 
 // How many words of a mapping a finish wrote.
@@ -193,54 +160,50 @@ fn words_of(answer: Result<usize, CallError>) -> usize
 }
 
 // What is said of a finish. The mapping is written into lent words.
-fn finish(bench: Bench, lent: &mut [u32], out: &mut [u8]) -> Worked
-    requires { Q.Room lent.old out.old }
-    ensures fits { (result.bytes ≤ length out.old) × (result.words ≤ length lent.old) }
-    ensures said { S.SaysFinish bench lent.old lent.new out.old out.new result }
+fn finish(bench: Bench, lent: &mut [u32], text: &mut Text) -> Worked
+    requires { Q.Room lent.old text.old }
+    ensures fits { result.words ≤ length lent.old }
+    ensures said { S.SaysFinish bench lent.old lent.new text.old text.new result }
 {
     let call = bench.finish(lent);
-    let answer = call.answer;
-    let bytes = put_mapping(answer, lent, out);
-    let words = words_of(answer);
-    let bench = call.bench;
+    put_mapping(call.answer, lent, text);
     Worked {
-        bench,
-        bytes,
-        words,
+        bench: call.bench,
+        words: words_of(call.answer),
     }
 }
 
 // What is said of a command. A mapping is written into lent words.
-fn obey(bench: Bench, command: Command, lent: &mut [u32], out: &mut [u8]) -> Worked
-    requires { Q.Room lent.old out.old }
-    ensures fits { (result.bytes ≤ length out.old) × (result.words ≤ length lent.old) }
-    ensures said { S.SaysCommand command bench lent.old lent.new out.old out.new result }
+fn obey(bench: Bench, command: Command, lent: &mut [u32], text: &mut Text) -> Worked
+    requires { Q.Room lent.old text.old }
+    ensures fits { result.words ≤ length lent.old }
+    ensures said { S.SaysCommand command bench lent.old lent.new text.old text.new result }
 {
     match command {
-        Command::Pass => say_text(bench, b"", out),
+        Command::Pass => say_text(bench, b"", text),
         Command::Bind(word) => {
             let call = bench.bind(word);
-            say(call, b"BOUND\n", out)
+            say(call, b"BOUND\n", text)
         }
         Command::Release(function) => {
             let call = bench.release(function);
-            say(call, b"RELEASED\n", out)
+            say(call, b"RELEASED\n", text)
         }
-        Command::Price => price(bench, out),
-        Command::Show => show(bench, out),
-        Command::Finish => finish(bench, lent, out),
+        Command::Price => price(bench, text),
+        Command::Show => show(bench, text),
+        Command::Finish => finish(bench, lent, text),
     }
 }
 
 // What is said of a line: of its command, or that it is none.
-pub fn work(bench: Bench, command: Option<Command>, lent: &mut [u32], out: &mut [u8]) -> Worked
-    requires { Q.Room lent.old out.old }
-    ensures fits { (result.bytes ≤ length out.old) × (result.words ≤ length lent.old) }
-    ensures said { S.Says command bench lent.old lent.new out.old out.new result }
+pub fn work(bench: Bench, command: Option<Command>, lent: &mut [u32], text: &mut Text) -> Worked
+    requires { Q.Room lent.old text.old }
+    ensures fits { result.words ≤ length lent.old }
+    ensures said { S.Says command bench lent.old lent.new text.old text.new result }
 {
     match command {
-        Some(command) => obey(bench, command, lent, out),
-        None => say_text(bench, b"NOT A COMMAND\n", out),
+        Some(command) => obey(bench, command, lent, text),
+        None => say_text(bench, b"NOT A COMMAND\n", text),
     }
 }
 
@@ -260,27 +223,23 @@ fn open_input(job: &[u32], input: Input) -> After<()>
     Bench::open(job)
 }
 
-// What is said of a job's file: the words that were kept of it, and what was read, if it could be.
-pub fn open(job: &[u32], input: Result<Input, Failed>, out: &mut [u8]) -> Opened
-    requires { Q.most_text_bytes ≤ length out.old }
-    ensures fits { result.bytes ≤ length out.old }
-    ensures said { S.SaysInput job.now input out.old out.new result }
+// What is said of a job's file: the words that were kept of it, and what was read, if it could be; and its bench, if it was opened.
+pub fn open(job: &[u32], input: Result<Input, Failed>, text: &mut Text) -> Option<Bench>
+    requires { length text.old + most_line_bytes ≤ room }
+    ensures { S.SaysInput job.now input text.old text.new result }
 {
     let Ok(input) = input else {
-        return Opened {
-            bench: None,
-            bytes: 0,
-        };
+        return None;
     };
     let call = open_input(job, input);
     match call.answer {
-        Ok(()) => Opened {
-            bench: Some(call.bench),
-            bytes: text::put(b"OPENED\n", out, 0),
-        },
-        Err(error) => Opened {
-            bench: None,
-            bytes: put_error(error, out),
-        },
+        Ok(()) => {
+            text.put(b"OPENED\n");
+            Some(call.bench)
+        }
+        Err(error) => {
+            put_error(error, text);
+            None
+        }
     }
 }

@@ -34,7 +34,7 @@ pub fn consider(
     used: u64,
     terms: &Terms,
 ) -> Option<Best>
-    ensures { result ≡ C.better (K.besides terms.now.width terms.now.prices used) (T.terms_held terms.now) function best word }
+    ensures { result ≡ C.better (K.besides terms.now.width.n terms.now.prices used) (T.terms_held terms.now) function best word }
 {
     if recipe::source_of(word) != function {
         return best;

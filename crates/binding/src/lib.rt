@@ -2,12 +2,11 @@
 #![tactic(auto)]
 
 ghost use Rattle.std.specs.Prelude.{◌≡◌, ◌^◌, ◌<◌};
-ghost use Rattle.bits.specs.Asked as Q;
 ghost use Rattle.binding.specs.Binding as B;
 ghost use Rattle.binding.specs.Right as R;
 
 use alu::Kind;
-use bits::Ports;
+use bits::{Operands, Ports};
 use output::Outputs;
 
 // A function on wired inputs.
@@ -111,26 +110,23 @@ pub fn claim_of(word: u32) -> Claim
 
 // The ports of a side.
 #[tactic(auto, using(alu::proofs::Shown::ports_lt), unfolding(crate::specs::Binding::side_shows))]
-pub fn side_shows(side: Side, n: u32, left: u64, right: u64, carry: bool) -> Ports
-    requires { Q.Operands n left right }
-    ensures { (result ≡ B.side_shows side n left right carry) × (result.o0 < 2 ^ n) }
+pub fn side_shows(side: Side, operands: Operands, carry: bool) -> Ports
+    ensures { (result ≡ B.side_shows side operands.width.n operands.left operands.right carry) × (result.o0 < 2 ^ operands.width.n) }
 {
+    let inputs = Operands {
+        width: operands.width,
+        left: bits::wired(operands, side.left),
+        right: bits::wired(operands, side.right),
+    };
     let kind = side.kind;
-    alu::ports_of(
-        kind,
-        n,
-        bits::wired(n, side.left, left, right),
-        bits::wired(n, side.right, left, right),
-        bits::carried(side.carry, carry),
-    )
+    alu::ports_of(kind, inputs, bits::carried(side.carry, carry))
 }
 
 // The ports of a recipe.
-pub fn shows(recipe: Recipe, n: u32, left: u64, right: u64, carry: bool) -> Ports
-    requires { Q.Operands n left right }
-    ensures { result ≡ B.shows recipe n left right carry }
+pub fn shows(recipe: Recipe, operands: Operands, carry: bool) -> Ports
+    ensures { result ≡ B.shows recipe operands.width.n operands.left operands.right carry }
 {
     let target = recipe.target;
     let outputs = recipe.outputs;
-    output::outputs_show(outputs, n, side_shows(target, n, left, right, carry))
+    output::outputs_show(outputs, operands.width, side_shows(target, operands, carry))
 }

@@ -1,4 +1,4 @@
--- What functions below the calls ask of their callers. Nobody has to believe this: each caller proves it.
+-- What widths and operands are. Nobody has to believe this: each function that makes one proves it.
 use Rattle.std.specs.Prelude.{ℕ, ◌^◌, ◌<◌, ◌≤◌}
 
 pub record Width (n : ℕ) : Type 0 where

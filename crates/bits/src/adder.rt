@@ -4,10 +4,9 @@ ghost use Rattle.std.specs.Prelude.{◌≡◌, ◌+◌, ◌%◌, ◌^◌, ◌<�
 ghost use Rattle.std.specs.Bool.{beq};
 ghost use Rattle.bits.specs.Bits as B;
 ghost use Rattle.bits.specs.Sum as S;
-ghost use Rattle.bits.specs.Asked as Q;
 ghost use Rattle.bits.specs.Adder.{cut};
 
-use crate::{Ports, ones, top};
+use crate::{Operands, Ports, ones, top};
 
 // A sum cut to the width, and whether it reached 2^n.
 #[derive(Clone, Copy)]
@@ -24,13 +23,13 @@ fn wrapped(s: u64, a: u64, c: bool) -> bool
 }
 
 #[tactic(auto, using(crate::proofs::Sums::narrow))]
-fn add(n: u32, a: u64, b: u64, c: bool) -> CutSum
-    requires { Q.Operands n a b }
-    ensures { result ≡ cut n (a + b + B.num c) }
+fn add(operands: Operands, c: bool) -> CutSum
+    ensures { result ≡ cut operands.width.n (operands.left + operands.right + B.num c) }
 {
-    let s = std::num::wrapping_add_u64(std::num::wrapping_add_u64(a, b), u64::from(c));
-    if n < 64 {
-        let m = ones(n);
+    let Operands { width, left, right } = operands;
+    let s = std::num::wrapping_add_u64(std::num::wrapping_add_u64(left, right), u64::from(c));
+    if width.n < 64 {
+        let m = ones(width);
         return CutSum {
             word: s & m,
             carry: m < s,
@@ -38,7 +37,7 @@ fn add(n: u32, a: u64, b: u64, c: bool) -> CutSum
     }
     CutSum {
         word: s,
-        carry: wrapped(s, a, c),
+        carry: wrapped(s, left, c),
     }
 }
 
@@ -51,15 +50,15 @@ fn overflow(p: bool, q: bool, s: bool) -> bool
 
 // The ports of a sum.
 #[tactic(auto, using(crate::proofs::Sums::sum_parts))]
-pub fn sum(n: u32, a: u64, b: u64, c: bool) -> Ports
-    requires { Q.Operands n a b }
-    ensures { result ≡ S.sum n a b c }
+pub fn sum(operands: Operands, c: bool) -> Ports
+    ensures { result ≡ S.sum operands.width.n operands.left operands.right c }
 {
-    let t = add(n, a, b, c);
+    let Operands { width, left, right } = operands;
+    let t = add(operands, c);
     Ports {
         o0: t.word,
         ocout: t.carry,
-        ovf: overflow(top(n, a), top(n, b), top(n, t.word)),
+        ovf: overflow(top(width, left), top(width, right), top(width, t.word)),
         o1: false,
     }
 }

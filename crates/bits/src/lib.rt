@@ -3,11 +3,13 @@
 
 mod adder;
 mod logic;
+mod operands;
 mod order;
 mod wiring;
 
 pub use adder::sum;
 pub use logic::logic_word;
+pub use operands::{Operands, Width};
 pub use order::compared;
 pub use wiring::{carried, complement, ones, top, wired};
 

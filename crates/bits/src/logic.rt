@@ -2,9 +2,8 @@
 ghost use Rattle.std.specs.Prelude.{◌≡◌, ◌*◌, ◌≤◌};
 ghost use Rattle.bits.specs.Bits as B;
 ghost use Rattle.bits.specs.Vector as L;
-ghost use Rattle.bits.specs.Asked as Q;
 
-use crate::ones;
+use crate::{Operands, ones};
 
 fn gated(b: bool, word: u64) -> u64
     ensures { (result ≡ B.num b * word) × (result ≤ word) }
@@ -13,14 +12,14 @@ fn gated(b: bool, word: u64) -> u64
 }
 
 #[tactic(auto, using(crate::proofs::Minterms::by_gates, crate::proofs::Minterms::union_fits))]
-pub fn logic_word(n: u32, vector: u32, left: u64, right: u64) -> u64
-    requires { Q.Operands n left right }
-    ensures { result ≡ L.logic_word n vector left right }
+pub fn logic_word(operands: Operands, vector: u32) -> u64
+    ensures { result ≡ L.logic_word operands.width.n vector operands.left operands.right }
 {
+    let Operands { width, left, right } = operands;
     let both = left & right;
     let left_alone = left - both;
     let right_alone = right - both;
-    let neither = ones(n) - left - right_alone;
+    let neither = ones(width) - left - right_alone;
     gated(vector % 2 == 1, both)
         + gated(vector / 2 % 2 == 1, left_alone)
         + gated(vector / 4 % 2 == 1, right_alone)

@@ -1,27 +1,34 @@
 // "Comparisons are of two's complement values": of words with one sign the lower is less, else the negative one is.
 ghost use Rattle.std.specs.Prelude.{◌≡◌};
 ghost use Rattle.bits.specs.Order as O;
-ghost use Rattle.bits.specs.Asked as Q;
 
-use crate::top;
+use crate::{Operands, top};
 
 #[tactic(auto, using(crate::proofs::Orders::one_sign, crate::proofs::Orders::two_signs))]
-fn below(n: u32, a: u64, b: u64) -> bool
-    requires { Q.Operands n a b }
-    ensures { result ≡ O.below n a b }
+fn below(operands: Operands) -> bool
+    ensures { result ≡ O.below operands.width.n operands.left operands.right }
 {
-    let p = top(n, a);
-    if p == top(n, b) { a < b } else { p }
+    let Operands { width, left, right } = operands;
+    let p = top(width, left);
+    if p == top(width, right) {
+        left < right
+    } else {
+        p
+    }
 }
 
-pub fn compared(n: u32, less: bool, equal: bool, greater: bool, left: u64, right: u64) -> bool
-    requires { Q.Operands n left right }
-    ensures { result ≡ O.compared n less equal greater left right }
+pub fn compared(operands: Operands, less: bool, equal: bool, greater: bool) -> bool
+    ensures { result ≡ O.compared operands.width.n less equal greater operands.left operands.right }
 {
-    if below(n, left, right) {
+    if below(operands) {
         return less;
     }
-    if below(n, right, left) {
+    let exchanged = Operands {
+        width: operands.width,
+        left: operands.right,
+        right: operands.left,
+    };
+    if below(exchanged) {
         return greater;
     }
     equal

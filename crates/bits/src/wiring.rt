@@ -2,44 +2,43 @@
 ghost use Rattle.std.specs.Prelude.{◌≡◌, ◌-◌, ◌*◌, ◌^◌, ◌<◌};
 ghost use Rattle.bits.specs.Bits as B;
 ghost use Rattle.bits.specs.Wiring as W;
-ghost use Rattle.bits.specs.Asked as Q;
+
+use crate::{Operands, Width};
 
 // The word of n ones.
 #[tactic(auto, using(crate::proofs::Words::ones_shift))]
-pub fn ones(n: u32) -> u64
-    requires { Q.Width n }
-    ensures { result ≡ 2 ^ n - 1 }
+pub fn ones(width: Width) -> u64
+    ensures { result ≡ 2 ^ width.n - 1 }
 {
-    0xffff_ffff_ffff_ffffu64 >> (64 - n)
+    0xffff_ffff_ffff_ffffu64 >> (64 - width.n)
 }
 
 // All n bits of a word complemented.
-pub fn complement(n: u32, word: u64) -> u64
-    requires { Q.Width n × (word < 2 ^ n) }
-    ensures { result ≡ W.complement n word }
+pub fn complement(width: Width, word: u64) -> u64
+    requires { word < 2 ^ width.n }
+    ensures { result ≡ W.complement width.n word }
 {
-    ones(n) - word
+    ones(width) - word
 }
 
 // n ones for the bit 1, n zeros for the bit 0: 0 less the bit, cut to the width.
 #[tactic(auto, using(crate::proofs::Wirings::cut_mask))]
-fn mask(n: u32, bit: u64) -> u64
-    requires { Q.Width n × (bit < 2) }
-    ensures { result ≡ bit * (2 ^ n - 1) }
+fn mask(width: Width, bit: u64) -> u64
+    requires { bit < 2 }
+    ensures { result ≡ bit * (2 ^ width.n - 1) }
 {
-    std::num::wrapping_sub_u64(0, bit) & ones(n)
+    std::num::wrapping_sub_u64(0, bit) & ones(width)
 }
 
 // The word that a wiring code gives of two words. The rest of the code chooses the word, its low bit complements it.
-pub fn wired(n: u32, code: u32, left: u64, right: u64) -> u64
-    requires { Q.Operands n left right }
-    ensures { (result ≡ W.wired n code left right) × (result < 2 ^ n) }
+pub fn wired(operands: Operands, code: u32) -> u64
+    ensures { (result ≡ W.wired operands.width.n code operands.left operands.right) × (result < 2 ^ operands.width.n) }
 {
     if 6 <= code {
         return 0;
     }
-    let words = [0, left, right];
-    words[(code / 2) as usize] ^ mask(n, (code % 2) as u64)
+    let words = [0, operands.left, operands.right];
+    words[(code / 2) as usize] ^ mask(operands.width, (code % 2) as u64)
 }
 
 // The bit that a carry code gives of a carry, in the same way.
@@ -55,9 +54,9 @@ pub fn carried(code: u32, carry: bool) -> bool
 
 // The top bit of a word of n bits.
 #[tactic(auto, using(crate::proofs::Words::top_test))]
-pub fn top(n: u32, word: u64) -> bool
-    requires { Q.Width n × (word < 2 ^ n) }
-    ensures { result ≡ B.top n word }
+pub fn top(width: Width, word: u64) -> bool
+    requires { word < 2 ^ width.n }
+    ensures { result ≡ B.top width.n word }
 {
-    ones(n) / 2 < word
+    ones(width) / 2 < word
 }

@@ -1,13 +1,12 @@
 // The lines of the book: each rule as a binding is printed, and the record of the report's appendix that it comes from.
 #![tactic(auto)]
 
-ghost use Rattle.std.specs.Prelude.{◌+◌, ◌≤◌, ◌<◌, length};
+ghost use Rattle.std.specs.Prelude.{◌≡◌, ◌+◌, ◌++◌, ◌≤◌, ◌<◌, length};
 ghost use Rattle.book.specs.Book.{book};
-ghost use Rattle.text.specs.Text.{Puts};
+ghost use Rattle.text.specs.Text.{room};
 ghost use Rattle.book_lines.specs.BookLines as B;
 
-// The most bytes of a rule's line.
-pub const MOST_RULE_BYTES: usize = 28;
+use text::Text;
 
 // The names of the records in the book's order. A companion comes from none and has a -.
 const RECORDS: [&str; 256] = [
@@ -36,22 +35,23 @@ const RECORDS: [&str; 256] = [
 
 // Puts the name of the record that a rule comes from.
 #[tactic(auto, unfolding(crate::specs::BookLines::records, crate::specs::BookLines::record_of))]
-fn put_record(index: usize, out: &mut [u8], at: usize) -> usize
-    requires { (index < length book) × (at + B.most_record_bytes ≤ length out.old) }
-    ensures short { result ≤ at + B.most_record_bytes }
-    ensures text { Puts out.old at (B.record_of index) out.new result }
+fn put_record(index: usize, line: &mut Text)
+    requires { (index < length book) × (length line.old + B.most_record_bytes ≤ room) }
+    ensures short { length line.new ≤ length line.old + B.most_record_bytes }
+    ensures text { line.new ≡ line.old ++ B.record_of index }
 {
-    text::put_entry(&RECORDS, index, out, at)
+    line.put_entry(&RECORDS, index);
 }
 
 // Puts the line of a rule, by its index in the book.
-pub fn put_rule(index: usize, out: &mut [u8]) -> usize
-    requires { (index < length book) × (B.most_rule_bytes ≤ length out.old) }
-    ensures short { result ≤ B.most_rule_bytes }
-    ensures text { Puts out.old 0 (B.rule_line index) out.new result }
+#[tactic(auto, unfolding(crate::specs::BookLines::rule_line))]
+pub fn put_rule(index: usize, line: &mut Text)
+    requires { (index < length book) × (length line.old + B.most_rule_bytes ≤ room) }
+    ensures short { length line.new ≤ length line.old + B.most_rule_bytes }
+    ensures text { line.new ≡ line.old ++ B.rule_line index }
 {
-    let rule = listing::put_binding(book::entry(index), out, 0);
-    let gap = text::put(b" ", out, rule);
-    let record = put_record(index, out, gap);
-    text::put(b"\n", out, record)
+    listing::put_binding(book::entry(index), line);
+    line.put(b" ");
+    put_record(index, line);
+    line.put(b"\n");
 }

@@ -1,8 +1,8 @@
 -- What check_mapping says of what it read: "a last word cut short is 2 at its index", the job's before all else, the mapping's before the
 -- mapping's other refusals; "the checker's 1 to 6 also say which of the two is meant". A file that could not be read has no answer.
-use Rattle.std.specs.Prelude.{ℕ, true, false, List, [], if◌then◌else◌, Result, Ok, Err, ⊤}
+use Rattle.std.specs.Prelude.{ℕ, ◌≡◌, true, false, List, ◌++◌, if◌then◌else◌, Result, Ok, Err, ⊤}
 use Rattle.words.specs.Paper.{refusal}
-use Rattle.text.specs.Text.{Puts, bytes}
+use Rattle.text.specs.Text.{bytes}
 use Rattle.lines.specs.Lines.{refused_line, refused_file_line, wrong_line}
 use Rattle.verdict.specs.Verdicts.{Ruling, Gives}
 use Rattle.reader.specs.Job.{job_of}
@@ -39,14 +39,14 @@ files_ruling job first mapping second =
     else if second.cut then Gives (cut_mapping second.whole (job_of job))
     else ruling_of job mapping
 
--- the text of the answer to two files is put
-pub record SaysRuled (ruling : Ruling (Result ⊤ CheckError)) (out after : List ℕ) (end : ℕ) : Type 0 where
+-- the text of the answer to two files stands behind what stood before
+pub record SaysRuled (ruling : Ruling (Result ⊤ CheckError)) (old new : List ℕ) : Type 0 where
   pub answer : Result ⊤ CheckError
   pub ruled : CheckRuled ruling answer
-  pub text : Puts out 0 (checked_text answer) after end
+  pub text : new ≡ old ++ checked_text answer
 
 -- by whether the job's file was read, and the mapping's: of a file that failed nothing is put
-abbrev pub SaysChecked : List ℕ → Result Input Failed → List ℕ → Result Input Failed → List ℕ → List ℕ → ℕ → Type 0
-SaysChecked job (Err e) mapping other out after end = Puts out 0 [] after end
-SaysChecked job (Ok first) mapping (Err e) out after end = Puts out 0 [] after end
-SaysChecked job (Ok first) mapping (Ok second) out after end = SaysRuled (files_ruling job first mapping second) out after end
+abbrev pub SaysChecked : List ℕ → Result Input Failed → List ℕ → Result Input Failed → List ℕ → List ℕ → Type 0
+SaysChecked job (Err e) mapping other old new = new ≡ old
+SaysChecked job (Ok first) mapping (Err e) old new = new ≡ old
+SaysChecked job (Ok first) mapping (Ok second) old new = SaysRuled (files_ruling job first mapping second) old new

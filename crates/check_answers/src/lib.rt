@@ -1,8 +1,8 @@
-// What check_mapping says of what it read: the answer to its two files, and its text, put into lent bytes.
+// What check_mapping says of what it read: the answer to its two files, and its text, put behind what stands of a text.
 #![tactic(auto)]
 
-ghost use Rattle.std.specs.Prelude.{◌≡◌, ◌≤◌, length};
-ghost use Rattle.text.specs.Text as P;
+ghost use Rattle.std.specs.Prelude.{◌≡◌, ◌+◌, ◌≤◌, ◌++◌, length};
+ghost use Rattle.text.specs.Text.{room};
 ghost use Rattle.lines.specs.Lines as L;
 ghost use Rattle.reader.specs.Job as J;
 ghost use Rattle.checker.specs.Check as C;
@@ -11,6 +11,7 @@ ghost use Rattle.check_answers.specs.Answers as S;
 use checker::CheckError;
 use console::Failed;
 use input::Input;
+use text::Text;
 use words::{Fault, Refusal};
 
 // A mapping whose last word is cut short: the job's refusals come before it.
@@ -43,28 +44,26 @@ fn check_files(job: &[u32], first: Input, mapping: &[u32], second: Input) -> Res
 }
 
 // The text of a refusal.
-fn put_refused(error: CheckError, out: &mut [u8]) -> usize
-    requires { L.most_line_bytes ≤ length out.old }
-    ensures short { result ≤ L.most_line_bytes }
-    ensures text { P.Puts out.old 0 (S.refused_text error) out.new result }
+fn put_refused(error: CheckError, text: &mut Text)
+    requires { length text.old + L.most_line_bytes ≤ room }
+    ensures { text.new ≡ text.old ++ S.refused_text error }
 {
     match error {
-        CheckError::JobRefused(refusal) => lines::refused_file_line(refusal, false, out),
-        CheckError::MappingRefused(refusal) => lines::refused_file_line(refusal, true, out),
-        CheckError::Refused(refusal) => lines::refused_line(refusal, out),
-        CheckError::Wrong(witness) => lines::wrong_line(witness, out),
+        CheckError::JobRefused(refusal) => lines::refused_file_line(refusal, false, text),
+        CheckError::MappingRefused(refusal) => lines::refused_file_line(refusal, true, text),
+        CheckError::Refused(refusal) => lines::refused_line(refusal, text),
+        CheckError::Wrong(witness) => lines::wrong_line(witness, text),
     }
 }
 
 // The text of the checker's answer.
-fn put_checked(checked: Result<(), CheckError>, out: &mut [u8]) -> usize
-    requires { L.most_line_bytes ≤ length out.old }
-    ensures short { result ≤ L.most_line_bytes }
-    ensures text { P.Puts out.old 0 (S.checked_text checked) out.new result }
+fn put_checked(checked: Result<(), CheckError>, text: &mut Text)
+    requires { length text.old + L.most_line_bytes ≤ room }
+    ensures { text.new ≡ text.old ++ S.checked_text checked }
 {
     match checked {
-        Ok(()) => text::put(b"ACCEPTED\n", out, 0),
-        Err(error) => put_refused(error, out),
+        Ok(()) => text.put(b"ACCEPTED\n"),
+        Err(error) => put_refused(error, text),
     }
 }
 
@@ -74,15 +73,14 @@ pub fn check_inputs(
     first: Result<Input, Failed>,
     mapping: &[u32],
     second: Result<Input, Failed>,
-    out: &mut [u8],
-) -> usize
-    requires { L.most_line_bytes ≤ length out.old }
-    ensures short { result ≤ L.most_line_bytes }
-    ensures said { S.SaysChecked job.now first mapping.now second out.old out.new result }
+    text: &mut Text,
+)
+    requires { length text.old + L.most_line_bytes ≤ room }
+    ensures { S.SaysChecked job.now first mapping.now second text.old text.new }
 {
     let (Ok(first), Ok(second)) = (first, second) else {
-        return 0;
+        return;
     };
     let checked = check_files(job, first, mapping, second);
-    put_checked(checked, out)
+    put_checked(checked, text);
 }

@@ -3,7 +3,7 @@
 #![tactic(auto)]
 
 use input::KEPT_WORDS;
-use lines::MOST_LINE_BYTES;
+use text::Text;
 
 // Checks the mapping of the two files.
 fn check(rt: &HostRuntime) {
@@ -13,15 +13,15 @@ fn check(rt: &HostRuntime) {
     let second = input::read_file(rt, 2, &mut mapping);
     let job_kept = input::kept(first);
     let mapping_kept = input::kept(second);
-    let mut out = [0u8; MOST_LINE_BYTES];
-    let end = check_answers::check_inputs(
+    let mut text = Text::new();
+    check_answers::check_inputs(
         &job[..job_kept],
         first,
         &mapping[..mapping_kept],
         second,
-        &mut out,
+        &mut text,
     );
-    console::print(rt, &out[..end]);
+    console::print(rt, text.as_bytes());
 }
 
 fn main(rt: HostRuntime) {

@@ -19,14 +19,14 @@ fn claim_in(terms: &Terms, word: u32) -> Claim
 
 // The verdict on a rule or a binding under these terms.
 pub fn verdict_on(terms: &Terms, word: u32) -> Verdict
-    ensures { D.Says (C.claim_in terms.now.sources.now terms.now.targets.now word) terms.now.width result }
+    ensures { D.Says (C.claim_in terms.now.sources.now terms.now.targets.now word) terms.now.width.n result }
 {
     verdict::verdict_on(claim_in(terms, word), terms.width)
 }
 
 // Whether it is right.
 pub fn is_right(terms: &Terms, word: u32) -> bool
-    ensures { result ≡ R.is_right (C.claim_in terms.now.sources.now terms.now.targets.now word) terms.now.width }
+    ensures { result ≡ R.is_right (C.claim_in terms.now.sources.now terms.now.targets.now word) terms.now.width.n }
 {
     verdict::is_right(claim_in(terms, word), terms.width)
 }

@@ -1,5 +1,3 @@
-pub mod Parts
 pub mod Described
-pub mod Faults
 pub mod Meaning
 pub mod ReadBack

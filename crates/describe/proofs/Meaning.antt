@@ -1,22 +1,20 @@
--- The parts of a word's line put one after the other.
+-- What a word means, by its kind and the layout.
 use mathlib.Core.Path.{◌≡◌, refl, sym, ap, ◌∙◌}
-use mathlib.Core.List.{List, []}
+use mathlib.Core.List.{[], ◌++◌, append_assoc}
 use Prim.Native.Nat.{ℕ}
 use native.Mathlib.Omega.{arith}
 use Rattle.std.proofs.lemmas.Bool.Decides.{nat_tests}
-use Rattle.std.specs.Prelude.{Option, Some, None, Bool, true, false}
+use Rattle.std.specs.Prelude.{Option, Some, None, is_some, true, false}
 use Rattle.words.specs.Field.{kind_of}
 use Rattle.words.specs.Kinds.{kind_number, kind_named}
 use Rattle.words.specs.declared.kind.WordKind.{WordKind}
 use Rattle.words.specs.declared.kind.WordKind.TheVariants.{Header, Prices, Source, Target, Rule, Binding, Glue}
-use Rattle.words.specs.declared.Fault.{Fault}
 use Rattle.words.specs.declared.Fault.TheVariants.{OutOfSequence, NotLaidOut}
 use Rattle.words.proofs.Named.{named, no_kind}
 use Rattle.sequence.specs.declared.File.TheVariants.{AsJob}
 use Rattle.grammar.specs.Reading.{fits}
-use Rattle.text.specs.Text.{Puts, bytes, digits, hexadecimal}
-use Rattle.text.proofs.Joined.{after-put}
-use Rattle.describe.specs.Describe.{word_text, is_kind, layout_fault, output_fault, fault_text, meaning_text, word_line}
+use Rattle.text.specs.Text.{bytes}
+use Rattle.describe.specs.Describe.{word_text, is_kind, layout_fault, output_fault, fault_text, meaning_text}
 
 -- ---- what a word means, or its refusal
 
@@ -35,27 +33,22 @@ named_kind Rule = refl
 named_kind Binding = refl
 named_kind Glue = refl
 
-is_one : (n : ℕ) (k : WordKind) → kind_named n ≡ Some k → is_kind n ≡ true
-is_one n k e = ap is_kind (named n k e) ∙ named_kind k
+is_one : (n : ℕ) (o : Option WordKind) → o ≡ kind_named n → is_some o ≡ true → is_kind n ≡ true
+is_one n None e h = cc
+is_one n (Some k) e h = ap is_kind (named n k (sym e)) ∙ named_kind k
 
-module _ (w : ℕ) (o : Option WordKind) (eo : o ≡ kind_named (kind_of w)) {xs ys : List ℕ} {a b : ℕ} where
-  pub kindless : o ≡ None → Puts xs a (fault_text [] (Some OutOfSequence)) ys b → Puts xs a (meaning_text w) ys b
+module _ (w : ℕ) where
+  pub kindless : kind_named (kind_of w) ≡ None → meaning_text w ≡ fault_text [] (Some OutOfSequence)
   unfolding meaning_text layout_fault
-  kindless e f = rw (unnamed_kind (kind_of w) (sym eo ∙ e)) f
+  kindless e = rw (unnamed_kind (kind_of w) e) refl
 
-  module _ (k : WordKind) (e : o ≡ Some k) (r : Bool) (er : r ≡ fits AsJob w) where
-    pub misfit : r ≡ false → Puts xs a (fault_text [] (Some NotLaidOut)) ys b → Puts xs a (meaning_text w) ys b
+  module _ (h : is_some (kind_named (kind_of w)) ≡ true) where
+    pub misfit : fits AsJob w ≡ false → meaning_text w ≡ fault_text [] (Some NotLaidOut)
     unfolding meaning_text layout_fault
-    misfit h f = rw (is_one (kind_of w) k (sym eo ∙ e), sym er ∙ h) f
+    misfit e = rw (is_one (kind_of w) (kind_named (kind_of w)) refl h, e) refl
 
-    pub meant : r ≡ true → (n : Option Fault) {zs : List ℕ} {c : ℕ} → n ≡ output_fault w → Puts xs a (word_text w) ys b
-        → Puts ys b (fault_text (bytes ", ") n) zs c → Puts xs a (meaning_text w) zs c
+    pub meant : fits AsJob w ≡ true → meaning_text w ≡ word_text w ++ fault_text (bytes ", ") (output_fault w)
     unfolding meaning_text layout_fault
-    meant h n en f g = rw (is_one (kind_of w) k (sym eo ∙ e), sym er ∙ h, ← en) (after-put f g)
+    meant e = rw (is_one (kind_of w) (kind_named (kind_of w)) refl h, e) refl
 
--- ---- the line
-
-pub line_put : (w : ℕ) {o p q s t : List ℕ} {a b c d e : ℕ} → Puts o a (digits 16 8 w) p b → Puts p b (bytes " ") q c → Puts q c (meaning_text w) s d
-    → Puts s d (bytes "\n") t e → Puts o a (word_line w) t e
-unfolding word_line hexadecimal
-line_put w f g h k = after-put (after-put (after-put f g) h) k
+pub ruleset meanings = (append_assoc, kindless, misfit, meant)

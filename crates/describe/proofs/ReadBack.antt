@@ -12,7 +12,7 @@ use lib.Seq.{take-append_seam}
 use Rattle.std.specs.Prelude.{Some, if◌then◌else◌}
 use Rattle.std.specs.Option.{option_and_then}
 use Rattle.text.specs.Text.{bytes, glyph, digits, hexadecimal}
-use Rattle.text.proofs.Putting.{digits_length}
+use Rattle.text.proofs.Digits.{digits_length}
 use Rattle.hexadecimal.specs.Hex.{digit_of, between, ended, with_digit, digits_left, last_word, word_in}
 use Rattle.hexadecimal.specs.declared.Hex.{Hex}
 use Rattle.describe.specs.Describe.{meaning_text, word_line}

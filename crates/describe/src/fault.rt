@@ -1,9 +1,10 @@
 // The refusal of a word by itself, wherever it stands.
-ghost use Rattle.std.specs.Prelude.{◌≡◌, ◌+◌, ◌≤◌, length};
+ghost use Rattle.std.specs.Prelude.{◌≡◌, ◌+◌, ◌≤◌, ◌++◌, length};
 ghost use Rattle.text.specs.Text as P;
 ghost use Rattle.describe.specs.Describe as D;
 ghost use Rattle.describe.specs.Room as M;
 
+use text::Text;
 use words::Fault;
 
 // The refusal of a recipe for its outputs.
@@ -24,14 +25,14 @@ pub fn output_fault(word: u32) -> Option<Fault>
 }
 
 // A refusal behind what stands before it; of none, nothing.
-pub fn put_fault(before: &[u8], fault: Option<Fault>, out: &mut [u8], at: usize) -> usize
-    requires { at + length before.now + M.most_fault ≤ length out.old }
-    ensures short { result ≤ at + length before.now + M.most_fault }
-    ensures text { P.Puts out.old at (D.fault_text before.now fault) out.new result }
+#[tactic(auto, unfolding(crate::specs::Describe::fault_text, text::specs::Text::labelled))]
+pub fn put_fault(before: &[u8], fault: Option<Fault>, text: &mut Text)
+    requires { length text.old + length before.now + M.most_fault ≤ P.room }
+    ensures short { length text.new ≤ length text.old + length before.now + M.most_fault }
+    ensures text { text.new ≡ text.old ++ D.fault_text before.now fault }
 {
-    let Some(fault) = fault else {
-        return at;
-    };
-    let end = text::put(before, out, at);
-    text::put_labelled(b"REFUSED ", u32::from(fault) as u64, out, end)
+    if let Some(fault) = fault {
+        text.put(before);
+        text.put_labelled(b"REFUSED ", u32::from(fault) as u64);
+    }
 }

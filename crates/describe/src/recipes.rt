@@ -1,6 +1,6 @@
 // A recipe: what the target's inputs are wired to, and what its outputs give.
-ghost use Rattle.std.specs.Prelude.{◌+◌, ◌≤◌, ◌++◌, length};
-ghost use Rattle.text.specs.Text as P;
+ghost use Rattle.std.specs.Prelude.{◌≡◌, ◌+◌, ◌≤◌, ◌++◌, length};
+ghost use Rattle.text.specs.Text.{room};
 ghost use Rattle.spelling.specs.Spelling.{spelling_of};
 ghost use Rattle.spelling.specs.Room.{most_spelling};
 ghost use Rattle.describe.specs.Describe as D;
@@ -8,85 +8,92 @@ ghost use Rattle.describe.specs.Room as M;
 
 use recipe::Fields;
 use spelling::Codes;
+use text::Text;
 
 // A code's spelling behind what it is of.
-fn put_spelt(label: &[u8], codes: Codes, code: u32, out: &mut [u8], at: usize) -> usize
-    requires { at + length label.now + most_spelling codes ≤ length out.old }
-    ensures short { result ≤ at + length label.now + most_spelling codes }
-    ensures text { P.Puts out.old at (label.now ++ spelling_of codes code) out.new result }
+fn put_spelt(label: &[u8], codes: Codes, code: u32, text: &mut Text)
+    requires { length text.old + length label.now + most_spelling codes ≤ room }
+    ensures short { length text.new ≤ length text.old + length label.now + most_spelling codes }
+    ensures text { text.new ≡ text.old ++ label.now ++ spelling_of codes code }
 {
-    let end = text::put(label, out, at);
-    spelling::put_spelling(codes, code, out, end)
+    text.put(label);
+    spelling::put_spelling(codes, code, text);
 }
 
 // An output behind its name; code 0 is none.
-fn put_shown(label: &[u8], codes: Codes, code: u32, out: &mut [u8], at: usize) -> usize
-    requires { at + length label.now + most_spelling codes ≤ length out.old }
-    ensures short { result ≤ at + length label.now + most_spelling codes }
-    ensures text { P.Puts out.old at (D.shown_as label.now codes code) out.new result }
+#[tactic(auto, unfolding(crate::specs::Describe::shown_as))]
+fn put_shown(label: &[u8], codes: Codes, code: u32, text: &mut Text)
+    requires { length text.old + length label.now + most_spelling codes ≤ room }
+    ensures short { length text.new ≤ length text.old + length label.now + most_spelling codes }
+    ensures text { text.new ≡ text.old ++ D.shown_as label.now codes code }
 {
-    if code == 0 {
-        return at;
+    if code != 0 {
+        put_spelt(label, codes, code, text);
     }
-    put_spelt(label, codes, code, out, at)
 }
 
 // What the target's inputs are wired to.
-fn put_inputs(fields: Fields, out: &mut [u8], at: usize) -> usize
-    requires { at + M.most_inputs ≤ length out.old }
-    ensures short { result ≤ at + M.most_inputs }
-    ensures text { P.Puts out.old at (D.inputs_text fields) out.new result }
+#[tactic(auto, unfolding(crate::specs::Describe::inputs_text))]
+fn put_inputs(fields: Fields, text: &mut Text)
+    requires { length text.old + M.most_inputs ≤ room }
+    ensures short { length text.new ≤ length text.old + M.most_inputs }
+    ensures text { text.new ≡ text.old ++ D.inputs_text fields }
 {
-    let left = put_spelt(b": left ", Codes::Wiring, fields.left, out, at);
-    let right = put_spelt(b", right ", Codes::Wiring, fields.right, out, left);
-    put_spelt(b", carry ", Codes::Carry, fields.carry, out, right)
+    put_spelt(b": left ", Codes::Wiring, fields.left, text);
+    put_spelt(b", right ", Codes::Wiring, fields.right, text);
+    put_spelt(b", carry ", Codes::Carry, fields.carry, text);
 }
 
 // What its outputs give.
-fn put_outputs(fields: Fields, out: &mut [u8], at: usize) -> usize
-    requires { at + M.most_outputs ≤ length out.old }
-    ensures short { result ≤ at + M.most_outputs }
-    ensures text { P.Puts out.old at (D.outputs_text fields) out.new result }
+#[tactic(auto, unfolding(crate::specs::Describe::outputs_text))]
+fn put_outputs(fields: Fields, text: &mut Text)
+    requires { length text.old + M.most_outputs ≤ room }
+    ensures short { length text.new ≤ length text.old + M.most_outputs }
+    ensures text { text.new ≡ text.old ++ D.outputs_text fields }
 {
-    let main = put_shown(b", main ", Codes::Main, fields.main, out, at);
-    let cout = put_shown(b", carry out ", Codes::CarryOut, fields.cout, out, main);
-    let ovf = put_shown(b", overflow ", Codes::Overflow, fields.ovf, out, cout);
-    put_shown(b", comparison ", Codes::Comparison, fields.code, out, ovf)
+    put_shown(b", main ", Codes::Main, fields.main, text);
+    put_shown(b", carry out ", Codes::CarryOut, fields.cout, text);
+    put_shown(b", overflow ", Codes::Overflow, fields.ovf, text);
+    put_shown(b", comparison ", Codes::Comparison, fields.code, text);
 }
 
 // From scratch: the vector's four bits.
-fn put_scratch(word: u32, out: &mut [u8], at: usize) -> usize
-    requires { at + M.most_from ≤ length out.old }
-    ensures short { result ≤ at + M.most_from }
-    ensures text { P.Puts out.old at (D.scratch_text word) out.new result }
+#[tactic(auto, unfolding(crate::specs::Describe::scratch_text))]
+fn put_scratch(word: u32, text: &mut Text)
+    requires { length text.old + M.most_from ≤ room }
+    ensures short { length text.new ≤ length text.old + M.most_from }
+    ensures text { text.new ≡ text.old ++ D.scratch_text word }
 {
-    let end = text::put(b" from scratch: vector ", out, at);
-    text::put_digits(recipe::vector_of(word) as u64, 2, 4, out, end)
+    text.put(b" from scratch: vector ");
+    text.put_digits(recipe::vector_of(word) as u64, 2, 4);
 }
 
 // From a target: its inputs and its outputs.
-fn put_wired(word: u32, out: &mut [u8], at: usize) -> usize
-    requires { at + M.most_from ≤ length out.old }
-    ensures short { result ≤ at + M.most_from }
-    ensures text { P.Puts out.old at (D.wired_text word) out.new result }
+#[tactic(auto, unfolding(crate::specs::Describe::wired_text))]
+fn put_wired(word: u32, text: &mut Text)
+    requires { length text.old + M.most_from ≤ room }
+    ensures short { length text.new ≤ length text.old + M.most_from }
+    ensures text { text.new ≡ text.old ++ D.wired_text word }
 {
     let fields = recipe::unpack(word);
-    let from = text::put(b" from ", out, at);
-    let target = text::put_name(recipe::target_of(word), out, from);
-    let inputs = put_inputs(fields, out, target);
-    put_outputs(fields, out, inputs)
+    text.put(b" from ");
+    text.put_name(recipe::target_of(word));
+    put_inputs(fields, text);
+    put_outputs(fields, text);
 }
 
 // A recipe behind what it is.
-pub fn put_recipe(label: &[u8], word: u32, out: &mut [u8], at: usize) -> usize
-    requires { at + length label.now + M.most_recipe ≤ length out.old }
-    ensures short { result ≤ at + length label.now + M.most_recipe }
-    ensures text { P.Puts out.old at (label.now ++ D.recipe_text word) out.new result }
+#[tactic(auto, unfolding(crate::specs::Describe::recipe_text))]
+pub fn put_recipe(label: &[u8], word: u32, text: &mut Text)
+    requires { length text.old + length label.now + M.most_recipe ≤ room }
+    ensures short { length text.new ≤ length text.old + length label.now + M.most_recipe }
+    ensures text { text.new ≡ text.old ++ label.now ++ D.recipe_text word }
 {
-    let end = text::put(label, out, at);
-    let source = text::put_name(recipe::source_of(word), out, end);
+    text.put(label);
+    text.put_name(recipe::source_of(word));
     if recipe::from_scratch(word) {
-        return put_scratch(word, out, source);
+        put_scratch(word, text);
+    } else {
+        put_wired(word, text);
     }
-    put_wired(word, out, source)
 }

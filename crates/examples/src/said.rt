@@ -2,9 +2,8 @@
 ghost use Rattle.std.specs.Prelude.{◌≤◌};
 
 use input::Input;
-use lines::MOST_LINE_BYTES;
-use map_answers::MOST_TEXT_BYTES;
 use sequence::MOST_MAPPING_WORDS;
+use text::Text;
 
 // What is read of so many bytes of a file that has so many words.
 fn read_of(bytes: usize, words: usize) -> Input
@@ -22,21 +21,19 @@ pub fn map(rt: &HostRuntime, job: &[u32], bytes: usize) {
     let input = read_of(bytes, job.len());
     let kept = input.kept;
     let mut lent = [0u32; MOST_MAPPING_WORDS];
-    let mut out = [0u8; MOST_TEXT_BYTES];
-    let Ok(said) = map_answers::map_input(&job[..kept], Ok(input), &mut lent, &mut out) else {
-        return;
-    };
-    let end = said.bytes;
-    console::print(rt, &out[..end]);
+    let mut text = Text::new();
+    let mapped = map_answers::map_input(&job[..kept], Ok(input), &mut lent, &mut text);
+    if mapped.is_ok() {
+        console::print(rt, text.as_bytes());
+    }
 }
 
 pub fn open(rt: &HostRuntime, job: &[u32], bytes: usize) {
     let input = read_of(bytes, job.len());
     let kept = input.kept;
-    let mut out = [0u8; bench_answers::MOST_TEXT_BYTES];
-    let opened = bench_answers::open(&job[..kept], Ok(input), &mut out);
-    let end = opened.bytes;
-    console::print(rt, &out[..end]);
+    let mut text = Text::new();
+    bench_answers::open(&job[..kept], Ok(input), &mut text);
+    console::print(rt, text.as_bytes());
 }
 
 pub fn check(
@@ -50,13 +47,13 @@ pub fn check(
     let second = read_of(mapping_bytes, mapping.len());
     let kept = first.kept;
     let bound = second.kept;
-    let mut out = [0u8; MOST_LINE_BYTES];
-    let end = check_answers::check_inputs(
+    let mut text = Text::new();
+    check_answers::check_inputs(
         &job[..kept],
         Ok(first),
         &mapping[..bound],
         Ok(second),
-        &mut out,
+        &mut text,
     );
-    console::print(rt, &out[..end]);
+    console::print(rt, text.as_bytes());
 }

@@ -13,7 +13,6 @@ use Rattle.words.specs.Paper.{refusal}
 use Rattle.words.proofs.Choices.{either}
 use Rattle.words.proofs.Lists.{drop-next}
 use Rattle.reader.specs.Starts.{bindings_start}
-use Rattle.reader.specs.declared.Job.{Job}
 use Rattle.reader.specs.declared.Mapping.{Mapping}
 use Rattle.table.specs.Parts.{Terms}
 use Rattle.table.specs.Table.{in_job}

@@ -56,7 +56,7 @@ fn all_in_job(terms: &Terms, bindings: &[u32]) -> Result<(), Refusal>
 pub fn fit_of(terms: &Terms, mapping: Mapping, bindings: &[u32]) -> Result<(), Refusal>
     ensures { result ≡ F.fit_of (T.terms_held terms.now) mapping bindings.now }
 {
-    if terms.width != mapping.width {
+    if terms.width.n != mapping.width {
         return Err(Refusal {
             fault: Fault::OtherWidth,
             place: 0,

@@ -3,10 +3,10 @@
 
 ghost use Rattle.std.specs.Prelude.{◌≡◌, ◌+◌, ◌*◌, ◌≤◌, ◌<◌, if◌then◌else◌};
 ghost use Rattle.bits.specs.Bits as B;
-ghost use Rattle.bits.specs.Asked as Q;
 ghost use Rattle.glue.specs.Glue as G;
 ghost use Rattle.glue.specs.Codes as C;
 
+use bits::Width;
 use words::Prices;
 
 // Whether a code is in use.
@@ -57,15 +57,15 @@ pub fn when(used: bool, amount: u32) -> u32
 }
 
 // The price of a comparison code.
-fn code_price(n: u32, prices: Prices, code: u32) -> u32
-    requires { Q.Width n × (code < 16) }
-    ensures { result ≡ G.code_price n prices code }
+fn code_price(width: Width, prices: Prices, code: u32) -> u32
+    requires { code < 16 }
+    ensures { result ≡ G.code_price width.n prices code }
 {
     let a = prices.inverter as u32;
     let b = prices.gate as u32;
-    let joined = amount(n - 1, prices.gate);
-    let signed = amount(n, prices.gate);
-    let overflowed = amount(n + 1, prices.gate);
+    let joined = amount(width.n - 1, prices.gate);
+    let signed = amount(width.n, prices.gate);
+    let overflowed = amount(width.n + 1, prices.gate);
     let codes = [
         0, // 0 none
         0, // 1 TO1
@@ -88,13 +88,12 @@ fn code_price(n: u32, prices: Prices, code: u32) -> u32
 }
 
 // The prices of the comparison codes in use, summed.
-pub fn codes_count(n: u32, prices: Prices, part: u64) -> u32
-    requires { Q.Width n }
-    ensures { (result ≡ G.codes_count (G.code_price n prices) (B.bit part) G.comparison_codes) × (result ≤ 149940) }
+pub fn codes_count(width: Width, prices: Prices, part: u64) -> u32
+    ensures { (result ≡ G.codes_count (G.code_price width.n prices) (B.bit part) G.comparison_codes) × (result ≤ 149940) }
 {
     let mut total = 0;
     for code in 1..16 {
-        total += when(has(part, code), code_price(n, prices, code));
+        total += when(has(part, code), code_price(width, prices, code));
     }
     total
 }

@@ -38,12 +38,8 @@ fn keep(chunk: &[u8], kept: &mut [u8], at: usize)
     if kept.len() <= at {
         return;
     }
-    let room = kept.len() - at;
-    if chunk.len() <= room {
-        text::put(chunk, kept, at);
-        return;
-    }
-    text::put(&chunk[..room], kept, at);
+    let count = (kept.len() - at).min(chunk.len());
+    kept[at..at + count].copy_from_slice(&chunk[..count]);
 }
 
 // Reads into a chunk, and answers how many bytes came. A read that fails is said by the reader's name.

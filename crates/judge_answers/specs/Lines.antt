@@ -1,6 +1,6 @@
 -- The lines of judge_rule: the word, then RIGHT, or WRONG and where, or the refusal.
-use Rattle.std.specs.Prelude.{ℕ, List, ◌++◌, Option, Some, None, Result, Ok, Err}
-use Rattle.text.specs.Text.{Puts, bytes, hexadecimal, labelled}
+use Rattle.std.specs.Prelude.{◌≡◌, ℕ, List, ◌++◌, Option, Some, None, Result, Ok, Err}
+use Rattle.text.specs.Text.{bytes, hexadecimal, labelled}
 use Rattle.lines.specs.Lines.{refusal_text, witness_text}
 use Rattle.verdict.specs.Verdicts.{Judged}
 use Rattle.verdict.specs.declared.Verdict.TheVariants.{Right as IsRight, Wrong as IsWrong}
@@ -8,6 +8,10 @@ use Rattle.verdict.specs.declared.Verdict.{Verdict}
 use Rattle.words.specs.declared.Refusal.{Refusal}
 use Rattle.judge_answers.specs.Everywhere.{JudgedEverywhere}
 use Rattle.judge_answers.specs.declared.WrongAt.{WrongAt}
+
+-- no more bytes stand behind the word
+abbrev pub most_behind_bytes : ℕ
+most_behind_bytes = 152
 
 -- what stands behind the word
 abbrev pub judgement_text : Result Verdict Refusal → List ℕ
@@ -21,14 +25,14 @@ everywhere_text (Ok None) = bytes " RIGHT\n"
 everywhere_text (Ok (Some x)) = labelled (bytes " WRONG WIDTH ") x.width ++ witness_text x.witness ++ bytes "\n"
 everywhere_text (Err r) = bytes " " ++ refusal_text r ++ bytes "\n"
 
--- the line of a word judged at a width is put, at the start of lent bytes
-pub record SaysAt (w n : ℕ) (out after : List ℕ) (end : ℕ) : Type 0 where
+-- the line of a word judged at a width stands behind what stood before
+pub record SaysAt (w n : ℕ) (old new : List ℕ) : Type 0 where
   pub answer : Result Verdict Refusal
   pub judged : Judged w n answer
-  pub text : Puts out 0 (hexadecimal w ++ judgement_text answer) after end
+  pub text : new ≡ old ++ hexadecimal w ++ judgement_text answer
 
 -- and of one judged at every width
-pub record SaysEverywhere (w : ℕ) (out after : List ℕ) (end : ℕ) : Type 0 where
+pub record SaysEverywhere (w : ℕ) (old new : List ℕ) : Type 0 where
   pub answer : Result (Option WrongAt) Refusal
   pub judged : JudgedEverywhere w answer
-  pub text : Puts out 0 (hexadecimal w ++ everywhere_text answer) after end
+  pub text : new ≡ old ++ hexadecimal w ++ everywhere_text answer

@@ -1,13 +1,14 @@
-// What judge_rule says of a word: its judgement at a width, or at every width, as a line put into lent bytes.
+// What judge_rule says of a word: its judgement at a width, or at every width, as a line put behind what stands of a text.
 #![tactic(auto)]
 
-ghost use Rattle.std.specs.Prelude.{◌≤◌, length, Ok, Err, Some};
-ghost use Rattle.text.specs.Text as P;
+ghost use Rattle.std.specs.Prelude.{◌≡◌, ◌+◌, ◌≤◌, ◌++◌, length, Ok, Err, Some};
+ghost use Rattle.text.specs.Text.{room};
 ghost use Rattle.lines.specs.Lines as L;
 ghost use Rattle.verdict.specs.declared.Verdict.TheVariants as D;
 ghost use Rattle.judge_answers.specs.Everywhere as E;
 ghost use Rattle.judge_answers.specs.Lines as S;
 
+use text::Text;
 use verdict::Verdict;
 use words::{Refusal, Witness};
 
@@ -32,87 +33,83 @@ fn judge_everywhere(word: u32) -> Result<Option<WrongAt>, Refusal>
 }
 
 // A refusal behind the word.
-fn put_refused(refusal: Refusal, out: &mut [u8], at: usize) -> usize
-    requires { (at ≤ 8) × (L.most_line_bytes ≤ length out.old) }
-    ensures short { result ≤ L.most_line_bytes }
-    ensures text { P.Puts out.old at (S.judgement_text (Err refusal)) out.new result }
+fn put_refused(refusal: Refusal, line: &mut Text)
+    requires { length line.old + S.most_behind_bytes ≤ room }
+    ensures short { length line.new ≤ length line.old + S.most_behind_bytes }
+    ensures text { line.new ≡ line.old ++ S.judgement_text (Err refusal) }
 {
-    let gap = text::put(b" ", out, at);
-    let end = lines::put_refusal(refusal, out, gap);
-    text::put(b"\n", out, end)
+    line.put(b" ");
+    lines::put_refusal(refusal, line);
+    line.put(b"\n");
 }
 
 // A wrong recipe's operands behind the word.
-fn put_wrong(witness: Witness, out: &mut [u8], at: usize) -> usize
-    requires { (at ≤ 8) × (L.most_line_bytes ≤ length out.old) }
-    ensures short { result ≤ L.most_line_bytes }
-    ensures text { P.Puts out.old at (S.judgement_text (Ok (D.Wrong witness))) out.new result }
+fn put_wrong(witness: Witness, line: &mut Text)
+    requires { length line.old + S.most_behind_bytes ≤ room }
+    ensures short { length line.new ≤ length line.old + S.most_behind_bytes }
+    ensures text { line.new ≡ line.old ++ S.judgement_text (Ok (D.Wrong witness)) }
 {
-    let label = text::put(b" WRONG", out, at);
-    let end = lines::put_witness(witness, out, label);
-    text::put(b"\n", out, end)
+    line.put(b" WRONG");
+    lines::put_witness(witness, line);
+    line.put(b"\n");
 }
 
 // The width and a wrong recipe's operands behind the word.
-fn put_wrong_at(wrong: WrongAt, out: &mut [u8], at: usize) -> usize
-    requires { (at ≤ 8) × (L.most_line_bytes ≤ length out.old) }
-    ensures short { result ≤ L.most_line_bytes }
-    ensures text { P.Puts out.old at (S.everywhere_text (Ok (Some wrong))) out.new result }
+fn put_wrong_at(wrong: WrongAt, line: &mut Text)
+    requires { length line.old + S.most_behind_bytes ≤ room }
+    ensures short { length line.new ≤ length line.old + S.most_behind_bytes }
+    ensures text { line.new ≡ line.old ++ S.everywhere_text (Ok (Some wrong)) }
 {
-    let label = text::put_labelled(b" WRONG WIDTH ", wrong.width as u64, out, at);
-    let end = lines::put_witness(wrong.witness, out, label);
-    text::put(b"\n", out, end)
+    line.put_labelled(b" WRONG WIDTH ", wrong.width as u64);
+    lines::put_witness(wrong.witness, line);
+    line.put(b"\n");
 }
 
 // A judgement behind the word.
-fn put_judgement(judgement: Result<Verdict, Refusal>, out: &mut [u8], at: usize) -> usize
-    requires { (at ≤ 8) × (L.most_line_bytes ≤ length out.old) }
-    ensures short { result ≤ L.most_line_bytes }
-    ensures text { P.Puts out.old at (S.judgement_text judgement) out.new result }
+fn put_judgement(judgement: Result<Verdict, Refusal>, line: &mut Text)
+    requires { length line.old + S.most_behind_bytes ≤ room }
+    ensures short { length line.new ≤ length line.old + S.most_behind_bytes }
+    ensures text { line.new ≡ line.old ++ S.judgement_text judgement }
 {
     match judgement {
-        Ok(Verdict::Right) => text::put(b" RIGHT\n", out, at),
-        Ok(Verdict::Wrong(witness)) => put_wrong(witness, out, at),
-        Err(refusal) => put_refused(refusal, out, at),
+        Ok(Verdict::Right) => line.put(b" RIGHT\n"),
+        Ok(Verdict::Wrong(witness)) => put_wrong(witness, line),
+        Err(refusal) => put_refused(refusal, line),
     }
 }
 
 // The judgement at every width behind the word.
 // Kept: one function for this and put_judgement would take a width that may be lacking, or a closure; no plainer than three arms.
-fn put_everywhere_text(
-    everywhere: Result<Option<WrongAt>, Refusal>,
-    out: &mut [u8],
-    at: usize,
-) -> usize
-    requires { (at ≤ 8) × (L.most_line_bytes ≤ length out.old) }
-    ensures short { result ≤ L.most_line_bytes }
-    ensures text { P.Puts out.old at (S.everywhere_text everywhere) out.new result }
+fn put_everywhere_text(everywhere: Result<Option<WrongAt>, Refusal>, line: &mut Text)
+    requires { length line.old + S.most_behind_bytes ≤ room }
+    ensures short { length line.new ≤ length line.old + S.most_behind_bytes }
+    ensures text { line.new ≡ line.old ++ S.everywhere_text everywhere }
 {
     match everywhere {
-        Ok(None) => text::put(b" RIGHT\n", out, at),
-        Ok(Some(wrong)) => put_wrong_at(wrong, out, at),
-        Err(refusal) => put_refused(refusal, out, at),
+        Ok(None) => line.put(b" RIGHT\n"),
+        Ok(Some(wrong)) => put_wrong_at(wrong, line),
+        Err(refusal) => put_refused(refusal, line),
     }
 }
 
 // The line of a word judged at a width.
-pub fn put_at(word: u32, width: u32, out: &mut [u8]) -> usize
-    requires { L.most_line_bytes ≤ length out.old }
-    ensures short { result ≤ L.most_line_bytes }
-    ensures said { S.SaysAt word width out.old out.new result }
+pub fn put_at(word: u32, width: u32, line: &mut Text)
+    requires { length line.old + L.most_line_bytes ≤ room }
+    ensures short { length line.new ≤ length line.old + L.most_line_bytes }
+    ensures said { S.SaysAt word width line.old line.new }
 {
     let judgement = verdict::judge(word, width);
-    let digits = text::put_digits(word as u64, 16, 8, out, 0);
-    put_judgement(judgement, out, digits)
+    line.put_digits(word as u64, 16, 8);
+    put_judgement(judgement, line);
 }
 
 // The line of a word judged at every width.
-pub fn put_everywhere(word: u32, out: &mut [u8]) -> usize
-    requires { L.most_line_bytes ≤ length out.old }
-    ensures short { result ≤ L.most_line_bytes }
-    ensures said { S.SaysEverywhere word out.old out.new result }
+pub fn put_everywhere(word: u32, line: &mut Text)
+    requires { length line.old + L.most_line_bytes ≤ room }
+    ensures short { length line.new ≤ length line.old + L.most_line_bytes }
+    ensures said { S.SaysEverywhere word line.old line.new }
 {
     let everywhere = judge_everywhere(word);
-    let end = text::put_digits(word as u64, 16, 8, out, 0);
-    put_everywhere_text(everywhere, out, end)
+    line.put_digits(word as u64, 16, 8);
+    put_everywhere_text(everywhere, line);
 }

@@ -4,6 +4,6 @@ use Rattle.arguments.specs.declared.Widths.{Widths}
 use Rattle.arguments.specs.declared.Widths.TheVariants.{At, All}
 use Rattle.judge_answers.specs.Lines.{SaysAt, SaysEverywhere}
 
-abbrev pub SaysAsked : Widths → ℕ → List ℕ → List ℕ → ℕ → Type 0
-SaysAsked (At n) w out after end = SaysAt w n out after end
-SaysAsked All w out after end = SaysEverywhere w out after end
+abbrev pub SaysAsked : Widths → ℕ → List ℕ → List ℕ → Type 0
+SaysAsked (At n) w old new = SaysAt w n old new
+SaysAsked All w old new = SaysEverywhere w old new

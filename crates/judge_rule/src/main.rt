@@ -2,30 +2,31 @@
 // the word has ended.
 #![tactic(auto)]
 
-ghost use Rattle.std.specs.Prelude.{◌≤◌, length};
+ghost use Rattle.std.specs.Prelude.{◌+◌, ◌≤◌, length};
+ghost use Rattle.text.specs.Text.{room};
 ghost use Rattle.lines.specs.Lines.{most_line_bytes};
 ghost use Rattle.judge_rule.specs.Asked.{SaysAsked};
 
 use arguments::Widths;
-use lines::MOST_LINE_BYTES;
+use text::Text;
 
 // The line of a word.
-fn put_line(word: u32, widths: Widths, out: &mut [u8]) -> usize
-    requires { most_line_bytes ≤ length out.old }
-    ensures short { result ≤ most_line_bytes }
-    ensures said { SaysAsked widths word out.old out.new result }
+fn put_line(word: u32, widths: Widths, line: &mut Text)
+    requires { length line.old + most_line_bytes ≤ room }
+    ensures short { length line.new ≤ length line.old + most_line_bytes }
+    ensures said { SaysAsked widths word line.old line.new }
 {
     match widths {
-        Widths::At(width) => judge_answers::put_at(word, width, out),
-        Widths::All => judge_answers::put_everywhere(word, out),
+        Widths::At(width) => judge_answers::put_at(word, width, line),
+        Widths::All => judge_answers::put_everywhere(word, line),
     }
 }
 
 // Prints a word's line, and answers whether it could.
 fn judge_word(rt: &HostRuntime, word: u32, widths: Widths) -> bool {
-    let mut out = [0u8; MOST_LINE_BYTES];
-    let end = put_line(word, widths, &mut out);
-    console::print(rt, &out[..end])
+    let mut line = Text::new();
+    put_line(word, widths, &mut line);
+    console::print(rt, line.as_bytes())
 }
 
 // Judges each word, until the text is over or a line cannot be printed.

@@ -47,11 +47,11 @@ job_within job input lent =
     {x = Err (refusal OutOfSequence input.whole)} {y = answer_of job lent}
     (λ _. omega arith) (λ _. answer_within job lent)
 
-pub room_for : (job lent after out : List ℕ) (input : Input) (a : Result ℕ Refusal) → a ≡ job_answer job input lent → length after ≡ length lent
-    → Room lent out → RoomFor a after out
-room_for job lent after out input a e l h =
+pub room_for : (job lent after text : List ℕ) (input : Input) (a : Result ℕ Refusal) → a ≡ job_answer job input lent → length after ≡ length lent
+    → Room lent text → RoomFor a after text
+room_for job lent after text input a e l h =
     record {
-      room = omega arith;
+      enough = omega arith;
       within =
           subst (λ (x : Result ℕ Refusal). words_written x ≤ length after) (sym e)
           (subst (λ (n : ℕ). words_written (job_answer job input lent) ≤ n) (sym l) (job_within job input lent));

@@ -2,7 +2,7 @@
 -- have is kept, which is refusal 1 as for all its words.
 use mathlib.Core.Path.{◌≡◌, refl, sym, ap, subst, ◌∙◌}
 use mathlib.Core.Bool.{Bool, true, false, not}
-use mathlib.Core.List.{List, [], ◌∷◌}
+use mathlib.Core.List.{List, [], ◌∷◌, ◌++◌}
 use Prim.Native.Nat.{ℕ, ◌/◌, ◌%◌, ◌≤◌, ◌<◌}
 use native.Mathlib.Omega.{arith}
 use borrow.Author.Tests.{ltb-true, ltb-false, lt-ltb, le-ltb}
@@ -15,14 +15,12 @@ use Rattle.sequence.specs.Limits.{most_job_words}
 use Rattle.files.specs.Files.{words_of}
 use Rattle.reader.specs.Words.{words_read}
 use Rattle.reader.specs.Job.{job_of}
-use Rattle.text.specs.Text.{Puts}
 use Rattle.input.specs.Read.{kept_words, kept_bytes, input_of, ReadToEnd}
 use Rattle.input.specs.declared.Input.{Input}
 use Rattle.input.proofs.Chunks.{least_is, start_kept}
 use Rattle.mapper.specs.Mapping.{answer_of, lent_after_map}
 use Rattle.map_answers.specs.Answers.{map_text, job_answer, job_lent, SaysMapped}
 use Rattle.map_answers.specs.Bytes.{job_text}
-use Rattle.map_answers.specs.declared.Said.{Said}
 use Rattle.words.specs.declared.Fault.TheVariants.{BadLength, OutOfSequence}
 
 words_length : (file : List ℕ) → length (words_of file) ≡ length file / 4
@@ -80,11 +78,10 @@ module _ (words read : List ℕ) (input : Input) (k : ReadToEnd words read input
       ap (λ (n : ℕ). take n read) size ∙ ap (λ (l : List ℕ). take (length (words_of start)) l) k.kept
       ∙ start_kept (words_of start) words (omega (arith, words_length start, length-take kept_bytes k.file))
 
-  pub prints_for_the_bytes : (lent lent_after out after : List ℕ) (r : Said)
-      → SaysMapped (take input.kept read) (Ok input) lent lent_after out after (Ok r) → Puts out 0 (job_text k.file lent) after r.bytes
-  prints_for_the_bytes lent lent_after out after r s =
-      let p : SaysMapped (words_of (take kept_bytes k.file)) (Ok (input_of (length k.file))) lent lent_after out after (Ok r) =
-      subst (λ (i : Input). SaysMapped (words_of (take kept_bytes k.file)) (Ok i) lent lent_after out after (Ok r)) k.same
-      (subst (λ (l : List ℕ). SaysMapped l (Ok input) lent lent_after out after (Ok r)) kept_of s)
-      in
-      subst (λ (t : List ℕ). Puts out 0 t after r.bytes) (says_of_the_bytes k.file lent) p.1.text
+  pub prints_for_the_bytes : (lent lent_after old new : List ℕ) (count : ℕ)
+      → SaysMapped (take input.kept read) (Ok input) lent lent_after old new (Ok count) → new ≡ old ++ job_text k.file lent
+  prints_for_the_bytes lent lent_after old new count s =
+      let p : SaysMapped (words_of (take kept_bytes k.file)) (Ok (input_of (length k.file))) lent lent_after old new (Ok count) =
+      subst (λ (i : Input). SaysMapped (words_of (take kept_bytes k.file)) (Ok i) lent lent_after old new (Ok count)) k.same
+      (subst (λ (l : List ℕ). SaysMapped l (Ok input) lent lent_after old new (Ok count)) kept_of s)
+      in p.1.text ∙ ap (λ (t : List ℕ). old ++ t) (says_of_the_bytes k.file lent)

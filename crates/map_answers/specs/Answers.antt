@@ -1,15 +1,13 @@
 -- What map_job says of what it read: document 01, "prints, per binding, ..; then the count. A refusal prints only REFUSED, number and place
 -- in decimal; a last word cut short is 2 at its index, before all else." An input that could not be read is said to have failed.
-use Rattle.std.specs.Prelude.{ℕ, ◌≡◌, List, take, if◌then◌else◌, Result, Ok, Err}
+use Rattle.std.specs.Prelude.{ℕ, ◌≡◌, List, ◌++◌, take, if◌then◌else◌, Result, Ok, Err}
 use Rattle.words.specs.Paper.{refusal}
-use Rattle.text.specs.Text.{Puts}
 use Rattle.listing.specs.Listing.{mapped_text}
 use Rattle.lines.specs.Lines.{refused_line}
 use Rattle.console.specs.declared.Failed.{Failed}
 use Rattle.input.specs.declared.Input.{Input}
 use Rattle.mapper.specs.Mapping.{answer_of, lent_after_map}
 use Rattle.words.specs.declared.Refusal.{Refusal}
-use Rattle.map_answers.specs.declared.Said.{Said}
 use Rattle.words.specs.declared.Fault.TheVariants.{OutOfSequence}
 
 -- ---- the text of an answer
@@ -33,14 +31,14 @@ job_answer job input lent = if input.cut then Err (refusal OutOfSequence input.w
 unfoldable pub job_lent : List ℕ → Input → List ℕ → List ℕ
 job_lent job input lent = if input.cut then lent else lent_after_map job lent
 
--- the text of an answer is put, and how many words of a mapping it wrote is said
-pub record SaysAnswer (a : Result ℕ Refusal) (lent out after : List ℕ) (r : Said) : Type 0 where
-  pub text : Puts out 0 (map_text a lent) after r.bytes
-  pub words : r.words ≡ words_written a
+-- the text of an answer stands behind what stood before, and how many words of a mapping it wrote is said
+pub record SaysAnswer (a : Result ℕ Refusal) (lent old new : List ℕ) (count : ℕ) : Type 0 where
+  pub text : new ≡ old ++ map_text a lent
+  pub words : count ≡ words_written a
 
 -- by whether the input was read: of one that failed nothing is put or written, and that it failed is said
-abbrev pub SaysMapped : List ℕ → Result Input Failed → List ℕ → List ℕ → List ℕ → List ℕ → Result Said Failed → Type 0
-SaysMapped job (Err e) lent lent_after out after r = (r ≡ Err e) × (lent_after ≡ lent) × (after ≡ out)
-SaysMapped job (Ok input) lent lent_after out after (Err e) = ⊥
-SaysMapped job (Ok input) lent lent_after out after (Ok said) =
-    (lent_after ≡ job_lent job input lent) × SaysAnswer (job_answer job input lent) (job_lent job input lent) out after said
+abbrev pub SaysMapped : List ℕ → Result Input Failed → List ℕ → List ℕ → List ℕ → List ℕ → Result ℕ Failed → Type 0
+SaysMapped job (Err e) lent lent_after old new r = (r ≡ Err e) × (lent_after ≡ lent) × (new ≡ old)
+SaysMapped job (Ok input) lent lent_after old new (Err e) = ⊥
+SaysMapped job (Ok input) lent lent_after old new (Ok count) =
+    (lent_after ≡ job_lent job input lent) × SaysAnswer (job_answer job input lent) (job_lent job input lent) old new count

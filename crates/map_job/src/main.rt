@@ -2,8 +2,8 @@
 // to the file of that name. What cannot be read or written is said on standard error.
 #![tactic(auto)]
 
-use map_answers::MOST_TEXT_BYTES;
 use sequence::MOST_MAPPING_WORDS;
+use text::Text;
 
 // Maps the job, and saves a mapping that was written, if a file is named for it.
 fn map(rt: &HostRuntime) {
@@ -11,13 +11,11 @@ fn map(rt: &HostRuntime) {
     let input = input::read_words(rt, &mut rt.stdin(), b"standard input", &mut job);
     let kept = input::kept(input);
     let mut lent = [0u32; MOST_MAPPING_WORDS];
-    let mut out = [0u8; MOST_TEXT_BYTES];
-    let Ok(said) = map_answers::map_input(&job[..kept], input, &mut lent, &mut out) else {
+    let mut text = Text::new();
+    let Ok(count) = map_answers::map_input(&job[..kept], input, &mut lent, &mut text) else {
         return;
     };
-    let end = said.bytes;
-    console::print(rt, &out[..end]);
-    let count = said.words;
+    console::print(rt, text.as_bytes());
     if count == 0 {
         return;
     }

@@ -7,6 +7,7 @@ ghost use Rattle.writer.specs.Write as W;
 ghost use Rattle.choice.specs.Chosen as K;
 ghost use Rattle.mapper.specs.Mapping as M;
 
+use bits::Width;
 use book::BOOK;
 use choice::Chosen;
 use reader::Job;
@@ -32,12 +33,12 @@ fn write_chosen(job: Job, chosen: Chosen, lent: &mut [u32]) -> Result<usize, Ref
     ensures answer { result ≡ W.written_of job.sources lent.old }
     ensures written { lent.new ≡ W.lent_after (M.chosen_words job (take job.sources chosen.words)) lent.old }
 {
-    let width = job.width;
+    let width = Width { n: job.width };
     let prices = job.prices;
     let count = tally::price(chosen.used, width, prices);
     let sources = job.sources as usize;
     let bound = chosen.words;
-    writer::write_mapping(width, &bound[..sources], count, lent)
+    writer::write_mapping(job.width, &bound[..sources], count, lent)
 }
 
 // The mapping of a job that was read: 12 comes before 23.

@@ -2,10 +2,9 @@
 #![tactic(auto)]
 
 ghost use Rattle.std.specs.Prelude.{◌≡◌, ◌^◌, ◌<◌, [], ◌∷◌, slice_index_or};
-ghost use Rattle.bits.specs.Asked as Q;
 ghost use Rattle.output.specs.Output as B;
 
-use bits::Ports;
+use bits::{Ports, Width};
 
 // The codes of a recipe's outputs.
 #[derive(Clone, Copy)]
@@ -35,11 +34,11 @@ pub fn shown_bit(code: u32, bit: bool) -> bool
 }
 
 // The main output.
-fn shown_word(n: u32, code: u32, word: u64) -> u64
-    requires { Q.Width n × (word < 2 ^ n) }
-    ensures { result ≡ B.shown_word n code word }
+fn shown_word(width: Width, code: u32, word: u64) -> u64
+    requires { word < 2 ^ width.n }
+    ensures { result ≡ B.shown_word width.n code word }
 {
-    shown(code, 0, word, bits::complement(n, word))
+    shown(code, 0, word, bits::complement(width, word))
 }
 
 // A comparison code on TO1, GOR and GAND of TO0, S and TOVF.
@@ -70,22 +69,22 @@ pub fn shown_comparison(code: u32, to1: bool, gor: bool, gand: bool, s: bool, to
 
 // The ports that the output codes show of a target's.
 #[tactic(auto, using(crate::proofs::Codes::output_parts))]
-pub fn outputs_show(outputs: Outputs, n: u32, target: Ports) -> Ports
-    requires { Q.Width n × (target.o0 < 2 ^ n) }
-    ensures { result ≡ B.outputs_show outputs n target }
+pub fn outputs_show(outputs: Outputs, width: Width, target: Ports) -> Ports
+    requires { target.o0 < 2 ^ width.n }
+    ensures { result ≡ B.outputs_show outputs width.n target }
 {
     let to0 = target.o0;
     let tovf = target.ovf;
     Ports {
-        o0: shown_word(n, outputs.main, to0),
+        o0: shown_word(width, outputs.main, to0),
         ocout: shown_bit(outputs.cout, target.ocout),
         ovf: shown_bit(outputs.ovf, tovf),
         o1: shown_comparison(
             outputs.code,
             target.o1,
             to0 != 0,
-            to0 == bits::ones(n),
-            bits::top(n, to0),
+            to0 == bits::ones(width),
+            bits::top(width, to0),
             tovf,
         ),
     }

@@ -12,7 +12,7 @@ use table::Terms;
 
 // The glue count of bindings under the terms of a job.
 pub fn glue_of(terms: &Terms, bindings: &[u32]) -> u32
-    ensures { result ≡ glue terms.now.width terms.now.prices bindings.now }
+    ensures { result ≡ glue terms.now.width.n terms.now.prices bindings.now }
 {
     let used = usage::joined(bindings);
     tally::price(used, terms.width, terms.prices)

@@ -5,6 +5,7 @@ mod random;
 mod tables;
 
 use accounts::glue::{Costs, glue_count};
+use bits::Width;
 use random::{costs_from, word_from};
 use reference::trial::next;
 use tables::{ALL, SINGLE};
@@ -26,7 +27,7 @@ fn price(usage: u64, costs: Costs) -> Option<u64> {
         gate: (costs.gate % 256) as u8,
         multiplexer: (costs.multiplexer % 256) as u8,
     };
-    Some(tally::price(usage, n, prices) as u64)
+    Some(tally::price(usage, Width { n }, prices) as u64)
 }
 
 // Whether the words have the same count at a width and prices made of x.

@@ -4,15 +4,15 @@
 ghost use Rattle.std.specs.Prelude.{◌<◌, length};
 ghost use Rattle.book.specs.Book.{book};
 
-use book_lines::MOST_RULE_BYTES;
+use text::Text;
 
 // Prints the line of a rule, and answers whether it could.
 fn print_rule(rt: &HostRuntime, index: usize) -> bool
     requires { index < length book }
 {
-    let mut line = [0u8; MOST_RULE_BYTES];
-    let end = book_lines::put_rule(index, &mut line);
-    console::print(rt, &line[..end])
+    let mut line = Text::new();
+    book_lines::put_rule(index, &mut line);
+    console::print(rt, line.as_bytes())
 }
 
 // Prints the rules in the book's order, until a line cannot be printed.

@@ -1,24 +1,20 @@
--- The bytes of words put one after the other: putting those that are left gives the whole file.
-use mathlib.Core.Path.{◌≡◌, sym}
-use mathlib.Core.List.{List, []}
+-- The bytes of words put one after the other: what stands, with the bytes of the words that are left, is the whole file.
+use mathlib.Core.Path.{◌≡◌, sym, ap, ◌∙◌}
+use mathlib.Core.List.{List, ◌++◌, append_assoc, append-nil}
 use Prim.Native.Nat.{ℕ, ◌+◌, ◌≤◌, ◌<◌}
-use native.Mathlib.Omega.{arith}
 use lib.ListN.{length, drop, get_or, drop_of_length-le}
-use lib.Seq.{sets}
 use Rattle.words.proofs.Lists.{drop-next}
-use Rattle.text.specs.Text.{Puts}
 use Rattle.files.specs.Files.{bytes_of, file_of}
-use Rattle.text.proofs.Joined.{rest_puts}
 
-module _ (words out whole : List ℕ) (i at end : ℕ) (e : Puts out at (file_of (drop i words)) whole end) where
-  pub one_filed : (bytes after : List ℕ) (next : ℕ) → i < length words → bytes ≡ bytes_of (get_or words i 0) → Puts out at bytes after next
-      → Puts after next (file_of (drop (i + 1) words)) whole end
+module _ (words file whole : List ℕ) (i : ℕ) (e : file ++ file_of (drop i words) ≡ whole) where
+  pub one_filed : (bytes after : List ℕ) → i < length words → bytes ≡ bytes_of (get_or words i 0) → after ≡ file ++ bytes
+      → after ++ file_of (drop (i + 1) words) ≡ whole
   unfolding file_of
-  one_filed bytes after next h b p = rest_puts (rw (drop-next words i h) at e) (rw b at p)
+  one_filed bytes after h b p =
+      let rest = file_of (drop (i + 1) words) in
+      ap (λ (l : List ℕ). l ++ rest) (p ∙ ap (λ (l : List ℕ). file ++ l) b) ∙ append_assoc file (bytes_of (get_or words i 0)) rest
+      ∙ rw (drop-next words i h) at e
 
-pub all_filed : (words start out : List ℕ) (i at : ℕ) → Puts out at (file_of (drop i words)) (sets start 0 (file_of words)) (length (file_of words))
-    → length words ≤ i → Puts start 0 (file_of words) out at
-unfolding file_of
-all_filed words start out i at e h =
-    let f : Puts out at [] (sets start 0 (file_of words)) (length (file_of words)) = rw (drop_of_length-le words h) at e in
-    record { ends = omega (arith, f.ends); put = sym f.put }
+  pub all_filed : length words ≤ i → file ≡ whole
+  unfolding file_of
+  all_filed h = sym (append-nil file) ∙ rw (drop_of_length-le words h) at e

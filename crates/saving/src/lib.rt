@@ -1,29 +1,24 @@
 // A mapping's words written to a file that an argument names.
 #![tactic(auto)]
 
-ghost use Rattle.std.specs.Prelude.{◌*◌, ◌≤◌, length};
-ghost use Rattle.text.specs.Text as P;
+ghost use Rattle.std.specs.Prelude.{◌≡◌, ◌+◌, ◌*◌, ◌≤◌, ◌++◌, length};
+ghost use Rattle.text.specs.Text.{room};
 ghost use Rattle.files.specs.Files as F;
 ghost use Rattle.sequence.specs.Limits.{most_mapping_words};
 
-use sequence::MOST_MAPPING_WORDS;
 use std::fs::File;
 use std::io::{Error, ErrorKind, Write};
 use std::str;
+use text::Text;
 
 // The bytes of a mapping's file.
-#[tactic(auto, using(crate::proofs::Filed::all_filed))]
-fn put_file(words: &[u32], out: &mut [u8]) -> usize
-    requires { 4 * length words.now ≤ length out.old }
-    ensures fits { result ≤ length out.old }
-    ensures text { P.Puts out.old 0 (F.file_of words.now) out.new result }
+fn put_file(words: &[u32], file: &mut Text)
+    requires { length file.old + 4 * length words.now ≤ room }
+    ensures { file.new ≡ file.old ++ F.file_of words.now }
 {
-    let mut at = 0;
     for word in words {
-        let bytes = files::bytes_of(*word);
-        at = text::put(&bytes, out, at);
+        file.put(&files::bytes_of(*word));
     }
-    at
 }
 
 // Opens a file for writing, empty. Its name is text.
@@ -53,7 +48,7 @@ fn save_bytes(rt: &HostRuntime, argument: usize, bytes: &[u8]) {
 pub fn save(rt: &HostRuntime, argument: usize, words: &[u32])
     requires { length words.now ≤ most_mapping_words }
 {
-    let mut file = [0u8; 4 * MOST_MAPPING_WORDS];
-    let size = put_file(words, &mut file);
-    save_bytes(rt, argument, &file[..size]);
+    let mut file = Text::new();
+    put_file(words, &mut file);
+    save_bytes(rt, argument, file.as_bytes());
 }

@@ -4,11 +4,11 @@
 
 ghost use Rattle.std.specs.Prelude.{◌≡◌, ◌<◌};
 ghost use Rattle.bits.specs.Bits as B;
-ghost use Rattle.bits.specs.Asked as Q;
 ghost use Rattle.equivalence.specs.Sets as F;
 ghost use Rattle.search.specs.Search as S;
 
 use binding::{Recipe, Side};
+use bits::Width;
 use equivalence::moves::{self, Tables};
 use equivalence::{rounds, witness};
 
@@ -55,12 +55,11 @@ fn decide(tables: &Tables, k: usize, plain: u8, carried: u8) -> Option<Counterex
 }
 
 // Nothing where the recipe shows what the source side shows at all operands and both carries.
-pub fn search(s: Side, t: Recipe, n: u32) -> Option<Counterexample>
-    requires { Q.Width n }
-    ensures { S.Found s t n result }
+pub fn search(s: Side, t: Recipe, width: Width) -> Option<Counterexample>
+    ensures { S.Found s t width.n result }
 {
     let tables = moves::tabulate(s, t);
     let plain = moves::index_of(automaton::first(s, t, false));
     let carried = moves::index_of(automaton::first(s, t, true));
-    decide(&tables, (n - 1) as usize, plain, carried)
+    decide(&tables, (width.n - 1) as usize, plain, carried)
 }

@@ -3,7 +3,7 @@
 
 ghost use Rattle.std.specs.Prelude.{◌≤◌};
 
-use describe::MOST_WORD_BYTES;
+use text::Text;
 
 // The bytes of a word so far, and how many they are.
 #[derive(Clone, Copy)]
@@ -25,9 +25,9 @@ fn next_word() -> Word {
 fn show(rt: &HostRuntime, bytes: [u8; 4]) -> bool {
     let mut words = [0u32; 1];
     files::words_of(&bytes, &mut words);
-    let mut line = [0u8; MOST_WORD_BYTES];
-    let end = describe::put_word(words[0], &mut line);
-    console::print(rt, &line[..end])
+    let mut line = Text::new();
+    describe::put_word(words[0], &mut line);
+    console::print(rt, line.as_bytes())
 }
 
 impl Word {

@@ -41,8 +41,8 @@ module _ (t : Tables) (s : tables_sound t ≡ true) where
   pub counted_width : Width t.width
   counted_width = (counted t s).width
 
-pub set-counted : (t : Tables) (bound : List ℕ) (u r : ℕ) → u ≡ usage (filled bound)
+pub set_counted : (t : Tables) (bound : List ℕ) (u r : ℕ) → u ≡ usage (filled bound)
     → (r ≡ set_count t.width t.prices u) × (r ≤ 612000) → r ≡ glue_on t bound
 unfolding glue_on
-set-counted t bound u r eu h =
+set_counted t bound u r eu h =
     h.0 ∙ ap (set_count t.width t.prices) eu ∙ price_is_glue t.width t.prices (filled bound)

@@ -4,6 +4,7 @@ ghost use Rattle.usage.specs.Sets as U;
 ghost use Rattle.soundness.specs.Sound as S;
 
 use crate::{NOTHING, Tables};
+use bits::Width;
 use sequence::MOST_SOURCES;
 
 // What the binding in an entry uses; an empty one uses nothing.
@@ -24,10 +25,11 @@ fn usage_of(bound: &[u32]) -> u64
 }
 
 // The glue count of what is bound.
+#[tactic(auto, using(crate::proofs::Count::counted_width, crate::proofs::Count::set_counted))]
 pub fn glue_on(tables: Tables, bound: [u32; MOST_SOURCES]) -> u32
     requires { S.tables_sound tables ≡ true }
     ensures { result ≡ S.glue_on tables bound }
 {
     let prices = tables.prices;
-    tally::price(usage_of(&bound), tables.width, prices)
+    tally::price(usage_of(&bound), Width { n: tables.width }, prices)
 }

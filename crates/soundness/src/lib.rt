@@ -11,6 +11,7 @@ ghost use Rattle.sequence.specs.Limits.{most_sources, most_targets};
 ghost use Rattle.table.specs.Parts as T;
 ghost use Rattle.soundness.specs.Sound as S;
 
+use bits::Width;
 pub use counting::glue_on;
 pub use reading::copy;
 use sequence::{MOST_SOURCES, MOST_TARGETS};
@@ -40,7 +41,7 @@ impl Tables {
         ensures { T.terms_held result ≡ S.terms_on self.now }
     {
         Terms {
-            width: self.width,
+            width: Width { n: self.width },
             prices: self.prices,
             sources: &self.sources[..self.nsources as usize],
             targets: &self.targets[..self.ntargets as usize],
@@ -71,7 +72,7 @@ pub fn rule_fault(word: u32) -> Option<Fault>
 
 // Whether a word may be bound to a source: a right rule of it, from scratch or from a target of the table.
 fn bindable(terms: &Terms, source: u32, word: u32) -> bool
-    ensures { result ≡ S.bindable terms.now.width terms.now.sources.now terms.now.targets.now source word }
+    ensures { result ≡ S.bindable terms.now.width.n terms.now.sources.now terms.now.targets.now source word }
 {
     if rule_fault(word).is_some() {
         return false;
@@ -86,7 +87,7 @@ fn bindable(terms: &Terms, source: u32, word: u32) -> bool
 }
 
 fn entry_sound(terms: &Terms, source: u32, word: u32) -> bool
-    ensures { result ≡ S.entry_sound terms.now.width terms.now.sources.now terms.now.targets.now source word }
+    ensures { result ≡ S.entry_sound terms.now.width.n terms.now.sources.now terms.now.targets.now source word }
 {
     if word == NOTHING {
         return true;
@@ -97,7 +98,7 @@ fn entry_sound(terms: &Terms, source: u32, word: u32) -> bool
 // Each source's entry, and nothing in the entries past them.
 fn bound_sound(terms: &Terms, bound: &[u32]) -> bool
     requires { length terms.now.sources.now ≤ length bound.now }
-    ensures { result ≡ S.bound_sound terms.now.width terms.now.sources.now terms.now.targets.now terms.now.sources.now bound.now }
+    ensures { result ≡ S.bound_sound terms.now.width.n terms.now.sources.now terms.now.targets.now terms.now.sources.now bound.now }
 {
     for (i, source) in terms.sources.iter().enumerate() {
         if !entry_sound(terms, *source, bound[i]) {

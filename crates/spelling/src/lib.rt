@@ -1,10 +1,12 @@
-// How the codes of a recipe are written, put into lent bytes: document 01, "Words".
+// How the codes of a recipe are written, put behind what stands of a text: document 01, "Words".
 #![tactic(auto)]
 
-ghost use Rattle.std.specs.Prelude.{◌≡◌, ◌+◌, ◌*◌, ◌≤◌, length};
-ghost use Rattle.text.specs.Text as T;
+ghost use Rattle.std.specs.Prelude.{◌≡◌, ◌+◌, ◌≤◌, ◌++◌, length};
+ghost use Rattle.text.specs.Text.{room};
 ghost use Rattle.spelling.specs.Room.{most_spelling};
 ghost use Rattle.spelling.specs.Spelling.{spelling_of};
+
+use text::Text;
 
 // The fields of a recipe that hold a code; the two wirings share theirs.
 #[derive(Clone, Copy)]
@@ -49,17 +51,17 @@ const COMPARISONS: [&str; 16] = [
 
 // Puts what a code says; of a code past its table, nothing.
 #[tactic(auto, unfolding(crate::specs::Spelling::spelling_of))]
-pub fn put_spelling(codes: Codes, code: u32, out: &mut [u8], at: usize) -> usize
-    requires { at + most_spelling codes ≤ length out.old }
-    ensures short { result ≤ at + most_spelling codes }
-    ensures text { T.Puts out.old at (spelling_of codes code) out.new result }
+pub fn put_spelling(codes: Codes, code: u32, text: &mut Text)
+    requires { length text.old + most_spelling codes ≤ room }
+    ensures short { length text.new ≤ length text.old + most_spelling codes }
+    ensures text { text.new ≡ text.old ++ spelling_of codes code }
 {
     match codes {
-        Codes::Wiring => text::put_entry(&WIRINGS, code as usize, out, at),
-        Codes::Carry => text::put_entry(&CARRIES, code as usize, out, at),
-        Codes::Main => text::put_entry(&MAINS, code as usize, out, at),
-        Codes::CarryOut => text::put_entry(&CARRIES_OUT, code as usize, out, at),
-        Codes::Overflow => text::put_entry(&OVERFLOWS, code as usize, out, at),
-        Codes::Comparison => text::put_entry(&COMPARISONS, code as usize, out, at),
+        Codes::Wiring => text.put_entry(&WIRINGS, code as usize),
+        Codes::Carry => text.put_entry(&CARRIES, code as usize),
+        Codes::Main => text.put_entry(&MAINS, code as usize),
+        Codes::CarryOut => text.put_entry(&CARRIES_OUT, code as usize),
+        Codes::Overflow => text.put_entry(&OVERFLOWS, code as usize),
+        Codes::Comparison => text.put_entry(&COMPARISONS, code as usize),
     }
 }

@@ -29,7 +29,7 @@ pub record Terms : Type 0 where
 
 -- the terms that a value in the code holds
 abbrev pub terms_held : held.Terms → Terms
-terms_held t = record { width = t.width; prices = t.prices; sources = t.sources.now; targets = t.targets.now }
+terms_held t = record { width = t.width.n; prices = t.prices; sources = t.sources.now; targets = t.targets.now }
 
 abbrev pub terms_with : Job → List ℕ → List ℕ → Terms
 terms_with job sources targets = record { width = job.width; prices = job.prices; sources = sources; targets = targets }

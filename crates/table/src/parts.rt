@@ -5,6 +5,7 @@ ghost use Rattle.reader.specs.Mapping as M;
 ghost use Rattle.table.specs.Parts as P;
 
 use crate::Terms;
+use bits::Width;
 use reader::{Job, Mapping};
 
 // The terms of a job that was read.
@@ -16,7 +17,7 @@ pub fn terms_of(words: &[u32], job: Job) -> Terms<'_>
     let targets_start = reader::targets_start(job);
     let rules_start = reader::rules_start(job);
     Terms {
-        width: job.width,
+        width: Width { n: job.width },
         prices: job.prices,
         sources: &words[start..targets_start],
         targets: &words[targets_start..rules_start],

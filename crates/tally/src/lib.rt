@@ -2,12 +2,12 @@
 #![tactic(auto)]
 
 ghost use Rattle.std.specs.Prelude.{◌≡◌, ◌-◌, ◌*◌, ◌≤◌, ◌<◌};
-ghost use Rattle.bits.specs.Asked as Q;
 ghost use Rattle.bits.specs.Bits as B;
 ghost use Rattle.glue.specs.Codes as C;
 ghost use Rattle.glue.specs.Glue as G;
 ghost use Rattle.tally.specs.Parts as P;
 
+use bits::Width;
 use glue::{amount, amount_each, codes_count, distinct, has, steps, when};
 use words::Prices;
 
@@ -49,20 +49,19 @@ fn multiplexers(n: u32, codes: u64, from: u32, size: u32, prices: Prices) -> u32
 
 // Left and right.
 #[tactic(auto, unfolding(glue::specs::Glue::wirings))]
-fn wirings(n: u32, prices: Prices, parts: Parts) -> u32
-    requires { Q.Width n }
-    ensures { (result ≡ G.wirings n prices (P.used parts)) × (result ≤ 163200) }
+fn wirings(width: Width, prices: Prices, parts: Parts) -> u32
+    ensures { (result ≡ G.wirings width.n prices (P.used parts)) × (result ≤ 163200) }
 {
-    multiplexers(n, parts.left, 0, 6, prices) + multiplexers(n, parts.right, 0, 6, prices)
+    multiplexers(width.n, parts.left, 0, 6, prices)
+        + multiplexers(width.n, parts.right, 0, 6, prices)
 }
 
 // NOT SI0 and NOT SI1, each once, whichever port uses it.
 #[tactic(auto, unfolding(glue::specs::Glue::complements))]
-fn complements(n: u32, prices: Prices, parts: Parts) -> u32
-    requires { Q.Width n }
-    ensures { (result ≡ G.complements n prices (P.used parts)) × (result ≤ 32640) }
+fn complements(width: Width, prices: Prices, parts: Parts) -> u32
+    ensures { (result ≡ G.complements width.n prices (P.used parts)) × (result ≤ 32640) }
 {
-    let inverters = amount(n, prices.inverter);
+    let inverters = amount(width.n, prices.inverter);
     when(has(parts.left, 3) | has(parts.right, 3), inverters)
         + when(has(parts.left, 5) | has(parts.right, 5), inverters)
 }
@@ -75,13 +74,12 @@ fn carry_in(prices: Prices, parts: Parts) -> u32
 }
 
 #[tactic(auto, unfolding(glue::specs::Glue::main_output))]
-fn main_output(n: u32, prices: Prices, parts: Parts) -> u32
-    requires { Q.Width n }
-    ensures { (result ≡ G.main_output n prices (P.used parts)) × (result ≤ 48960) }
+fn main_output(width: Width, prices: Prices, parts: Parts) -> u32
+    ensures { (result ≡ G.main_output width.n prices (P.used parts)) × (result ≤ 48960) }
 {
     let outputs = distinct(parts.main, 1, 2) + when(has(parts.scratch, 0), 1);
-    amount_each(steps(outputs), n, prices.multiplexer)
-        + when(has(parts.main, 2), amount(n, prices.inverter))
+    amount_each(steps(outputs), width.n, prices.multiplexer)
+        + when(has(parts.main, 2), amount(width.n, prices.inverter))
 }
 
 #[tactic(auto, unfolding(glue::specs::Glue::carry_out))]
@@ -92,42 +90,39 @@ fn carry_out(prices: Prices, parts: Parts) -> u32
 }
 
 #[tactic(auto, unfolding(glue::specs::Glue::comparison))]
-fn comparison(n: u32, prices: Prices, parts: Parts) -> u32
-    requires { Q.Width n }
-    ensures { (result ≡ G.comparison n prices (P.used parts)) × (result ≤ 153510) }
+fn comparison(width: Width, prices: Prices, parts: Parts) -> u32
+    ensures { (result ≡ G.comparison width.n prices (P.used parts)) × (result ≤ 153510) }
 {
-    multiplexers(1, parts.code, 1, 15, prices) + codes_count(n, prices, parts.code)
+    multiplexers(1, parts.code, 1, 15, prices) + codes_count(width, prices, parts.code)
 }
 
 // The gates of the minterms in use, and the complements that they read.
 #[tactic(auto, unfolding(glue::specs::Glue::scratch))]
-fn scratch(n: u32, prices: Prices, parts: Parts) -> u32
-    requires { Q.Width n }
-    ensures { (result ≡ G.scratch n prices (P.used parts)) × (result ≤ 212160) }
+fn scratch(width: Width, prices: Prices, parts: Parts) -> u32
+    ensures { (result ≡ G.scratch width.n prices (P.used parts)) × (result ≤ 212160) }
 {
     let minterms = distinct(parts.minterms, 0, 4);
     if minterms < 1 {
         return 0;
     }
-    let inverters = amount(n, prices.inverter);
+    let inverters = amount(width.n, prices.inverter);
     let neither = has(parts.minterms, 3);
-    amount_each(n, 3 * minterms - 1, prices.gate)
+    amount_each(width.n, 3 * minterms - 1, prices.gate)
         + when(neither | has(parts.minterms, 2), inverters)
         + when(neither | has(parts.minterms, 1), inverters)
 }
 
 // The count of a set.
 #[tactic(auto, unfolding(crate::specs::Parts::set_count))]
-pub fn price(usage: u64, n: u32, prices: Prices) -> u32
-    requires { Q.Width n }
-    ensures { (result ≡ P.set_count n prices usage) × (result ≤ 612000) }
+pub fn price(usage: u64, width: Width, prices: Prices) -> u32
+    ensures { (result ≡ P.set_count width.n prices usage) × (result ≤ 612000) }
 {
     let parts = parts_of(usage);
-    let inputs = wirings(n, prices, parts)
-        + complements(n, prices, parts)
+    let inputs = wirings(width, prices, parts)
+        + complements(width, prices, parts)
         + carry_in(prices, parts);
-    let outputs = main_output(n, prices, parts)
+    let outputs = main_output(width, prices, parts)
         + carry_out(prices, parts)
-        + comparison(n, prices, parts);
-    inputs + outputs + scratch(n, prices, parts)
+        + comparison(width, prices, parts);
+    inputs + outputs + scratch(width, prices, parts)
 }

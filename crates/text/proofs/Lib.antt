@@ -1,3 +1,2 @@
-pub mod Putting
-pub mod Joined
+pub mod Digits
 pub mod Tables

@@ -1,19 +1,17 @@
 -- What the lines of the programs are made of: document 01, "source name, target name or LV, word in eight capital hexadecimal digits ..
 -- number and place in decimal". Text is a list of bytes.
-use Rattle.std.specs.Prelude.{◌≡◌, ℕ, zero, suc, ◌+◌, ◌/◌, ◌%◌, List, [], ◌∷◌, ◌++◌, ltb, length, map, slice_index_or, max, if◌then◌else◌}
+use Rattle.std.specs.Prelude.{ℕ, zero, suc, ◌+◌, ◌/◌, ◌%◌, List, [], ◌∷◌, ◌++◌, ltb, length, map, slice_index_or, max, if◌then◌else◌}
 use Rattle.std.specs.Borrow.{Bor}
 use Prim.Native.Char.{code}
 use Prim.Native.String.{String, [] as no_text, ◌∷◌ as ◌then◌}
-use Rattle.std.proofs.lemmas.List.Edits.{sets}
 
 abbrev pub bytes : String → List ℕ
 bytes no_text = []
 bytes (c then s) = code c ∷ bytes s
 
--- a text put into lent bytes at a position, and the position after it
-pub record Puts (out : List ℕ) (at : ℕ) (text : List ℕ) (after : List ℕ) (end : ℕ) : Type 0 where
-  pub ends : end ≡ at + length text
-  pub put : after ≡ sets out at text
+-- the most bytes of a text
+abbrev pub room : ℕ
+room = 1024
 
 -- ---- tables of texts
 

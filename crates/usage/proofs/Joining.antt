@@ -4,7 +4,7 @@ use mathlib.Core.List.{List, [], ◌∷◌, ◌++◌}
 use Prim.Native.Nat.{ℕ, ◌+◌, ◌*◌, ◌/◌, ◌%◌, max}
 use native.Mathlib.Omega.{arith}
 use lib.Arith.{bin_ind}
-use lib.Bits.{bit_or, or_step, or_shr, or_self, or_zero_r}
+use lib.Bits.{bit_or, or_step, or_shr, or_comm, or_self, or_zero_r}
 use Rattle.std.specs.Prelude.{fold, if◌then◌else◌}
 use Rattle.words.specs.Field.{content_of}
 use Rattle.recipe.proofs.Content.{same_from_scratch, same_vector, same_fields}
@@ -43,7 +43,21 @@ usage-one w = or_zero_r (usage_of w)
 pub usage-more : (ws : List ℕ) (w : ℕ) → usage (ws ++ w ∷ []) ≡ bit_or (usage ws) (usage_of w)
 usage-more ws w = usage-append ws (w ∷ []) ∙ ap (bit_or (usage ws)) (usage-one w)
 
--- it does not matter how often one stands
+-- the order does not matter
+pub usage-swap : (xs ys : List ℕ) → usage (xs ++ ys) ≡ usage (ys ++ xs)
+usage-swap xs ys = usage-append xs ys ∙ or_comm (usage xs) (usage ys) ∙ sym (usage-append ys xs)
+
+-- a binding may stand anywhere
+pub usage-move : (xs ys : List ℕ) (w : ℕ) → usage (xs ++ w ∷ ys) ≡ usage (w ∷ xs ++ ys)
+unfolding usage
+usage-move xs ys w =
+    usage-append xs (w ∷ ys)
+    ∙ sym (or_assoc (usage xs) (usage_of w) (usage ys))
+    ∙ ap (λ (x : ℕ). bit_or x (usage ys)) (or_comm (usage xs) (usage_of w))
+    ∙ or_assoc (usage_of w) (usage xs) (usage ys)
+    ∙ ap (bit_or (usage_of w)) (sym (usage-append xs ys))
+
+-- nor does it matter how often
 pub usage-twice : (ws : List ℕ) → usage (ws ++ ws) ≡ usage ws
 usage-twice ws = usage-append ws ws ∙ or_self (usage ws)
 

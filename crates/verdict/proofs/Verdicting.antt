@@ -8,7 +8,6 @@ use borrow.Author.Rules.{rules}
 use Rattle.std.specs.Prelude.{Option, Some, None, IsSome, if◌then◌else◌}
 use Rattle.words.specs.declared.Witness.{Witness}
 use Rattle.words.proofs.Choices.{beq-true, beq-refl, false_of}
-use Rattle.bits.specs.Asked.{Width, Operands}
 use Rattle.bits.specs.declared.Ports.{Ports}
 use Rattle.binding.specs.Binding.{side_shows, shows}
 use Rattle.binding.specs.Right.{Right, is_right}
@@ -61,29 +60,11 @@ module _ (c : Claim) (n : ℕ) (o : Option Counterexample) (found : Found c.sour
   found_as : (k : Option Counterexample) → o ≡ k → Found c.source c.recipe n k
   found_as k e = subst (λ (x : Option Counterexample). Found c.source c.recipe n x) e found
 
-  pub right_case : o ≡ None → Says c n IsRight
-  right_case e = found_as None e
-
   module _ (x : Counterexample) (e : o ≡ Some x) where
-    pub operands : Width n → Operands n x.left x.right
-    operands g =
-        let f = found_as (Some x) e in
-        record { least = g.least; most = g.most; left_fits = f.0; right_fits = f.1 }
-
     module _ (p q : Ports) (port : Option ℕ) (ep : p ≡ shows c.recipe n x.left x.right x.carry)
         (eq : (q ≡ side_shows c.source n x.left x.right x.carry) × (q.o0 < 2 ^ n)) (eport : port ≡ lowest_port p q) where
       pub is_some_port : IsSome port
       is_some_port = subst IsSome (sym (eport ∙ ap₂ lowest_port ep eq.0)) (some-differs _ _ (found_as (Some x) e).2)
-
-      pub wrong_case : (k : ℕ) → port ≡ Some k → Says c n (Wrong (record { function = c.function; port = k; left = x.left; right = x.right; carry = x.carry }))
-      wrong_case k h =
-          let f = found_as (Some x) e in
-          record {
-            named = refl;
-            left_fits = f.0;
-            right_fits = f.1;
-            lowest = sym (ap₂ lowest_port ep eq.0) ∙ sym eport ∙ h;
-          }
 
 -- ---- what a verdict tells of rightness
 

@@ -2,12 +2,12 @@
 #![tactic(auto)]
 
 ghost use Rattle.std.specs.Prelude.{◌≡◌};
-ghost use Rattle.bits.specs.Asked as Q;
 ghost use Rattle.binding.specs.Right as R;
 ghost use Rattle.verdict.specs.Verdicts as D;
 
 use binding::Claim;
-use bits::Ports;
+use bits::{Operands, Ports, Width};
+use search::Counterexample;
 use words::{Fault, Refusal, Witness};
 
 // Right, or Wrong with function, port, both operands and carry.
@@ -39,20 +39,18 @@ fn lowest_port(p: Ports, q: Ports) -> Option<u32>
 }
 
 // The verdict on a claim. Of a wrong one the operands are those that the search meets first.
-pub fn verdict_on(claim: Claim, n: u32) -> Verdict
-    requires { Q.Width n }
-    ensures { D.Says claim n result }
+pub fn verdict_on(claim: Claim, width: Width) -> Verdict
+    ensures { D.Says claim width.n result }
 {
     let source = claim.source;
     let recipe = claim.recipe;
-    let Some(found) = search::search(source, recipe, n) else {
+    let Some(found) = search::search(source, recipe, width) else {
         return Verdict::Right;
     };
-    let left = found.left;
-    let right = found.right;
-    let carry = found.carry;
-    let p = binding::shows(recipe, n, left, right, carry);
-    let q = binding::side_shows(source, n, left, right, carry);
+    let Counterexample { left, right, carry } = found;
+    let operands = Operands { width, left, right };
+    let p = binding::shows(recipe, operands, carry);
+    let q = binding::side_shows(source, operands, carry);
     Verdict::Wrong(Witness {
         function: claim.function,
         port: lowest_port(p, q).unwrap(),
@@ -63,11 +61,10 @@ pub fn verdict_on(claim: Claim, n: u32) -> Verdict
 }
 
 // Whether a claim holds.
-pub fn is_right(claim: Claim, n: u32) -> bool
-    requires { Q.Width n }
-    ensures { result ≡ R.is_right claim n }
+pub fn is_right(claim: Claim, width: Width) -> bool
+    ensures { result ≡ R.is_right claim width.n }
 {
-    matches!(verdict_on(claim, n), Verdict::Right)
+    matches!(verdict_on(claim, width), Verdict::Right)
 }
 
 // Judges a recipe word and a width handed in by anybody: 2 for a kind that is no recipe's; then 3, 5 and 6 of the word, place 0; then 3 for the width, place 1.
@@ -90,5 +87,5 @@ pub fn judge(word: u32, width: u32) -> Result<Verdict, Refusal>
             place: 1,
         });
     }
-    Ok(verdict_on(binding::claim_of(word), width))
+    Ok(verdict_on(binding::claim_of(word), Width { n: width }))
 }

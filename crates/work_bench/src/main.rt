@@ -6,10 +6,10 @@ ghost use Rattle.std.specs.Prelude.{◌≤◌, length};
 ghost use Rattle.sequence.specs.Limits.{most_mapping_words};
 
 use bench::Bench;
-use bench_answers::MOST_TEXT_BYTES;
 use commands::Line;
 use input::KEPT_WORDS;
 use sequence::MOST_MAPPING_WORDS;
+use text::Text;
 
 // Saves a mapping that was written, if a file is named for it.
 fn save(rt: &HostRuntime, words: &[u32])
@@ -27,10 +27,9 @@ fn save(rt: &HostRuntime, words: &[u32])
 fn answer(rt: &HostRuntime, bench: Bench, line: Line) -> Option<Bench> {
     let command = commands::command_in(line);
     let mut lent = [0u32; MOST_MAPPING_WORDS];
-    let mut out = [0u8; MOST_TEXT_BYTES];
-    let worked = bench_answers::work(bench, command, &mut lent, &mut out);
-    let end = worked.bytes;
-    let printed = console::print(rt, &out[..end]);
+    let mut text = Text::new();
+    let worked = bench_answers::work(bench, command, &mut lent, &mut text);
+    let printed = console::print(rt, text.as_bytes());
     let words = worked.words;
     save(rt, &lent[..words]);
     if printed { Some(worked.bench) } else { None }
@@ -87,13 +86,12 @@ fn open_and_work(rt: &HostRuntime) {
     let mut job = [0u32; KEPT_WORDS];
     let input = input::read_file(rt, 1, &mut job);
     let kept = input::kept(input);
-    let mut out = [0u8; MOST_TEXT_BYTES];
-    let opened = bench_answers::open(&job[..kept], input, &mut out);
-    let end = opened.bytes;
-    if !console::print(rt, &out[..end]) {
+    let mut text = Text::new();
+    let opened = bench_answers::open(&job[..kept], input, &mut text);
+    if !console::print(rt, text.as_bytes()) {
         return;
     }
-    if let Some(bench) = opened.bench {
+    if let Some(bench) = opened {
         work(rt, bench);
     }
 }

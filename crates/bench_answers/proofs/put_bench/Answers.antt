@@ -6,8 +6,8 @@ use Rattle.bench_answers.proofs.put_bench.Goals as goal
 pub put_entries-requires : goal.put_entries-requires
 put_entries-requires c = search (shaped, full_room)
 
-pub returns-then-nsources-gt-MOST_SOURCES-clause-text : goal.returns-then-nsources-gt-MOST_SOURCES-clause-text
-returns-then-nsources-gt-MOST_SOURCES-clause-text c = search (shaped, full_table)
+pub returns-then-nsources-gt-MOST_SOURCES : goal.returns-then-nsources-gt-MOST_SOURCES
+returns-then-nsources-gt-MOST_SOURCES c = search (shaped, full_table)
 
 pub slice_bounds-sources-end : goal.slice_bounds-sources-end
 slice_bounds-sources-end c = search (shaped, few_fit)

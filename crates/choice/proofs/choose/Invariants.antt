@@ -13,7 +13,7 @@ use Rattle.best.specs.Beside.{besides}
 use Rattle.choice.proofs.choose.Given as goal
 
 abbrev pub invariant-loop-j : goal.invariant-loop-j
-invariant-loop-j l = (l.j ≤ l.count) × (l.unmappable ≡ l.initial.unmappable) × (best_of (besides l.terms.width l.terms.prices l.used) (terms_held l.terms) l.function l.best (drop l.j (l.rules ++ l.book)) ≡ best_of (besides l.terms.width l.terms.prices l.used) (terms_held l.terms) l.function None (l.rules ++ l.book)) × (l.count ≡ length l.rules + length l.book)
+invariant-loop-j l = (l.j ≤ l.count) × (l.unmappable ≡ l.initial.unmappable) × (best_of (besides l.terms.width.n l.terms.prices l.used) (terms_held l.terms) l.function l.best (drop l.j (l.rules ++ l.book)) ≡ best_of (besides l.terms.width.n l.terms.prices l.used) (terms_held l.terms) l.function None (l.rules ++ l.book)) × (l.count ≡ length l.rules + length l.book)
 
 abbrev pub decreases-loop-j : goal.decreases-loop-j
 decreases-loop-j l = l.count - l.j

@@ -8,4 +8,4 @@ use Rattle.glue.proofs.codes_count.Given as goal
 
 abbrev pub invariant-loop-code : goal.invariant-loop-code
 invariant-loop-code l =
-    l.total + codes_count (code_price l.n l.prices) (bit l.part) (codes l.code (16 - l.code)) ≡ codes_count (code_price l.n l.prices) (bit l.part) comparison_codes
+    l.total + codes_count (code_price l.width.n l.prices) (bit l.part) (codes l.code (16 - l.code)) ≡ codes_count (code_price l.width.n l.prices) (bit l.part) comparison_codes

@@ -7,9 +7,6 @@ use Rattle.map_job.proofs.map.Goals as goal
 pub slice_bounds-map_input-end : goal.slice_bounds-map_input-end
 slice_bounds-map_input-end c = search kept_within
 
-pub slice_bounds-print-end : goal.slice_bounds-print-end
-slice_bounds-print-end c = search (array_start, c.in-Ok.ensures.fits)
-
 pub slice_bounds-save-end : goal.slice_bounds-save-end
 slice_bounds-save-end c = search (array_start, c.in-Ok.ensures.fits)
 

@@ -6,5 +6,5 @@ use Rattle.soundness.proofs.bound_sound.Given as goal
 
 abbrev pub invariant-loop-i : goal.invariant-loop-i
 invariant-loop-i l =
-    bound_sound l.terms.width l.terms.sources.now l.terms.targets.now (drop l.i l.terms.sources.now) (drop l.i l.bound)
-    ≡ bound_sound l.terms.width l.terms.sources.now l.terms.targets.now l.terms.sources.now l.bound
+    bound_sound l.terms.width.n l.terms.sources.now l.terms.targets.now (drop l.i l.terms.sources.now) (drop l.i l.bound)
+    ≡ bound_sound l.terms.width.n l.terms.sources.now l.terms.targets.now l.terms.sources.now l.bound

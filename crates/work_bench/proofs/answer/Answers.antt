@@ -4,9 +4,6 @@ use lib.ListN.{length-take}
 use native.Mathlib.Omega.{arith}
 use Rattle.work_bench.proofs.answer.Goals as goal
 
-pub slice_bounds-print-end : goal.slice_bounds-print-end
-slice_bounds-print-end c = search array_start
-
 pub slice_bounds-save-end : goal.slice_bounds-save-end
 slice_bounds-save-end c = search array_start
 

@@ -1,15 +1,17 @@
 -- `describe::kind::put_prices` meets its contract.
-use Rattle.describe.proofs.Described.{byte_fits, prices_put}
+use Rattle.std.proofs.lemmas.List.{append_assoc}
+use Rattle.describe.specs.Describe.{prices_text}
+use Rattle.describe.proofs.Described.{inverter_field, gate_field, multiplexer_field}
 use Rattle.describe.proofs.kind.put_prices.Goals as goal
 
-pub overflow_cast-word : goal.overflow_cast-word
-overflow_cast-word c = search byte_fits
-
-pub overflow_cast-word-2 : goal.overflow_cast-word-2
-overflow_cast-word-2 c = search byte_fits
-
-pub overflow_cast-word-3 : goal.overflow_cast-word-3
-overflow_cast-word-3 c = search byte_fits
-
 pub returns-clause-text : goal.returns-clause-text
-returns-clause-text c = search prices_put
+unfolding prices_text
+returns-clause-text c =
+    rw (
+      c.put_labelled-3.ensures.text,
+      c.put_labelled-2.ensures.text,
+      c.put_labelled.ensures.text,
+      inverter_field c.args.word,
+      gate_field c.args.word,
+      multiplexer_field c.args.word,
+    ) (simp append_assoc)

@@ -1,6 +1,9 @@
 -- `describe::recipes::put_outputs` meets its contract.
-use Rattle.describe.proofs.Parts.{outputs_put}
+use Rattle.std.proofs.lemmas.List.{append_assoc}
+use Rattle.describe.specs.Describe.{outputs_text}
 use Rattle.describe.proofs.recipes.put_outputs.Goals as goal
 
 pub returns-clause-text : goal.returns-clause-text
-returns-clause-text c = search outputs_put
+unfolding outputs_text
+returns-clause-text c =
+    rw (c.put_shown-4.ensures.text, c.put_shown-3.ensures.text, c.put_shown-2.ensures.text, c.put_shown.ensures.text) (simp append_assoc)

@@ -9,7 +9,7 @@ pub slice_bounds-result-end-2 : goal.slice_bounds-result-end-2
 slice_bounds-result-end-2 c = search targets_within
 
 pub invariant_of-result : goal.invariant_of-result
-invariant_of-result c = record { width_in_range = width_there _ _ c.requires }
+invariant_of-result c = record { in_range = width_there _ _ c.requires }
 
 pub returns : goal.returns
 returns c = terms_there c.args.words.now c.args.job _ c.targets_start-targets_start.ensures _ c.rules_start-rules_start.ensures

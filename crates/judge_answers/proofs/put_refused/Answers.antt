@@ -1,6 +1,0 @@
--- `judge_answers::put_refused` meets its contract.
-use Rattle.text.proofs.Joined.{after-put}
-use Rattle.judge_answers.proofs.put_refused.Goals as goal
-
-pub returns-clause-text : goal.returns-clause-text
-returns-clause-text c = search after-put
