@@ -59,10 +59,6 @@ fn times(amount: u64, count: u64) -> u64 {
     sum
 }
 
-fn less_one(n: u64) -> u64 {
-    if n == 0 { 0 } else { n - 1 }
-}
-
 // An amount, where a code is in use.
 fn paid(bindings: &[u32], port: Port, code: u32, amount: u64) -> u64 {
     if uses(bindings, port, code) {
@@ -83,7 +79,7 @@ fn distinct(bindings: &[u32], port: Port, from: u32, end: u32) -> u64 {
 fn code_cost(code: u32, costs: Costs) -> u64 {
     let n = costs.n;
     let gates = match code {
-        3..=6 => less_one(n),
+        3..=6 => n.saturating_sub(1),
         9..=11 => n,
         12 | 13 => 1,
         14 | 15 => wrapping_add_u64(n, 1),
@@ -108,13 +104,13 @@ fn codes_cost(bindings: &[u32], costs: Costs) -> u64 {
 
 // The multiplexers at one place of a word, and those of a bit: one for each code past the first of a port.
 fn multiplexers(bindings: &[u32], n: u64) -> u64 {
-    let left = less_one(distinct(bindings, Port::Left, 0, 6));
-    let right = less_one(distinct(bindings, Port::Right, 0, 6));
+    let left = distinct(bindings, Port::Left, 0, 6).saturating_sub(1);
+    let right = distinct(bindings, Port::Right, 0, 6).saturating_sub(1);
     let scratch = paid(bindings, Port::Vector, 16, 1);
-    let main = less_one(wrapping_add_u64(distinct(bindings, Port::Main, 1, 3), scratch));
-    let carry_in = less_one(distinct(bindings, Port::CarryIn, 0, 4));
-    let carry_out = less_one(distinct(bindings, Port::CarryOut, 1, 3));
-    let comparison = less_one(distinct(bindings, Port::Comparison, 1, 16));
+    let main = wrapping_add_u64(distinct(bindings, Port::Main, 1, 3), scratch).saturating_sub(1);
+    let carry_in = distinct(bindings, Port::CarryIn, 0, 4).saturating_sub(1);
+    let carry_out = distinct(bindings, Port::CarryOut, 1, 3).saturating_sub(1);
+    let comparison = distinct(bindings, Port::Comparison, 1, 16).saturating_sub(1);
     let words = wrapping_add_u64(wrapping_add_u64(left, right), main);
     let bits = wrapping_add_u64(wrapping_add_u64(carry_in, carry_out), comparison);
     wrapping_add_u64(times(words, n), bits)
@@ -154,7 +150,7 @@ pub fn glue_count(bindings: &[u32], costs: Costs) -> u64 {
         paid(bindings, Port::Vector, 2, 1),
         paid(bindings, Port::Vector, 1, 1),
     );
-    let gates = times(less_one(times(3, wrapping_add_u64(high, low))), n);
+    let gates = times(times(3, wrapping_add_u64(high, low)).saturating_sub(1), n);
     let muxes = times(costs.multiplexer, multiplexers(bindings, n));
     let nots = times(costs.inverter, inverters(bindings, n));
     let made = times(costs.gate, gates);

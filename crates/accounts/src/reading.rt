@@ -7,6 +7,7 @@ use testing::words::{at, content, kind};
 
 // What the words of a job hold: the width, the prices of an inverter, a gate and a multiplexer, the numbers of sources, targets and rules,
 // and whether the book is asked for.
+// Kept: this and the two below are like those of the library, since the second account stands on no crate that it is compared with.
 #[derive(Clone, Copy, PartialEq, Eq)]
 pub struct JobFacts {
     pub width: u32,
@@ -29,7 +30,7 @@ pub struct MappingFacts {
 
 // The two kinds of files.
 #[derive(Clone, Copy, PartialEq, Eq)]
-enum File {
+pub enum File {
     Job,
     Mapping,
 }

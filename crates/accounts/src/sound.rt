@@ -1,101 +1,160 @@
 // Which benches are sound, entry by entry: each entry of a table by the word before it, each bound word by what the reference shows, and
-// the stored count by the second count. A bench is 88 words: 27 entries each of sources, targets and bound rules; then the width, the
-// numbers of sources and targets, the prices of an inverter, a gate and a multiplexer, and the stored count.
+// the stored count by the second count.
 use crate::glue::{Costs, glue_count};
 use reference::recipe::fields_of;
 use reference::refusal::refusal_of;
 use reference::trial::is_right;
-use testing::words::{after, at, content, first, kind};
+use testing::words::{at, content, kind, put};
 
-pub const BENCH_WORDS: usize = 88;
+// Of an inverter, a gate and a multiplexer.
+// Kept: a type like that of `words`, since the second account stands on no crate that it is compared with.
+#[derive(Clone, Copy, PartialEq, Eq)]
+pub struct Prices {
+    pub inverter: u8,
+    pub gate: u8,
+    pub multiplexer: u8,
+}
 
-pub const TARGETS: usize = 27;
+// The sources or the targets of a bench, and the number that it stores of them.
+// Kept: a bench is copied and compared whole, and no heap is a rule of the project.
+#[derive(Clone, Copy, PartialEq, Eq)]
+pub struct Table {
+    pub words: [u32; 27],
+    pub count: u32,
+}
 
-pub const BOUND: usize = 54;
+// A bench. What is bound stands in the entry of its source, and 0 where nothing is; the glue count is what the bench stores.
+// Kept: a type like that of the library, since the second account stands on no crate that it is compared with.
+#[derive(Clone, Copy, PartialEq, Eq)]
+pub struct BenchWords {
+    pub width: u32,
+    pub prices: Prices,
+    pub sources: Table,
+    pub targets: Table,
+    pub bound: [u32; 27],
+    pub glue: u32,
+}
 
-pub const WIDTH: usize = 81;
+impl Table {
+    // 27 words at most.
+    pub fn of(words: &[u32]) -> Table {
+        let mut table = [0u32; 27];
+        let mut count = 0;
+        for (entry, word) in table.iter_mut().zip(words) {
+            *entry = *word;
+            count = std::num::wrapping_add_u32(count, 1);
+        }
+        Table {
+            words: table,
+            count,
+        }
+    }
 
-pub const NSOURCES: usize = 82;
+    // The index of a word.
+    pub fn entry_of(&self, word: u32) -> Option<usize> {
+        self.words.iter().position(|entry| *entry == word)
+    }
 
-pub const NTARGETS: usize = 83;
-
-pub const GLUE: usize = 87;
-
-// A table from an index on, of so many words of a kind that rise, and zeros after them.
-fn table_fits(bench: &[u32], from: usize, count: u32, of: u32) -> bool {
-    let mut last = of << 28;
-    for (i, word) in table_at(bench, from).iter().enumerate() {
-        let word = *word;
-        if i < count as usize {
-            if (kind(word) != of) | (content(word) > 27) | (word <= last) {
+    // So many words of a kind that rise, and zeros after them.
+    fn fits(&self, of: u32) -> bool {
+        let mut last = of << 28;
+        for (i, word) in self.words.iter().enumerate() {
+            let word = *word;
+            if i < self.count as usize {
+                if (kind(word) != of) | (content(word) > 27) | (word <= last) {
+                    return false;
+                }
+                last = word;
+            } else if word != 0 {
                 return false;
             }
-            last = word;
-        } else if word != 0 {
-            return false;
+        }
+        true
+    }
+}
+
+impl BenchWords {
+    pub fn zeros() -> BenchWords {
+        BenchWords {
+            width: 0,
+            prices: Prices {
+                inverter: 0,
+                gate: 0,
+                multiplexer: 0,
+            },
+            sources: Table::of(&[]),
+            targets: Table::of(&[]),
+            bound: [0; 27],
+            glue: 0,
         }
     }
-    true
-}
 
-// The 27 words of a table from an index on.
-fn table_at(bench: &[u32], from: usize) -> &[u32] {
-    first(after(bench, from), 27)
-}
+    // With a rule bound, if its source is one of the bench's.
+    pub fn with_rule(self, rule: u32) -> BenchWords {
+        let mut bench = self;
+        if let Some(entry) = self.sources.entry_of(0x3000_0000 | fields_of(rule).source) {
+            put(&mut bench.bound, entry, rule);
+        }
+        bench
+    }
 
-fn is_target(bench: &[u32], word: u32) -> bool {
-    table_at(bench, TARGETS).contains(&word)
-}
-
-// A right rule of the source in an entry, from scratch or from a target of the table.
-fn may_be_bound(bench: &[u32], word: u32, place: usize) -> bool {
-    let n = at(bench, WIDTH);
-    let fields = fields_of(word);
-    if (fields.kind != 5) | refusal_of(word, n).is_some() {
-        return false;
-    }
-    if (place >= at(bench, NSOURCES) as usize) | (0x3000_0000 | fields.source != at(bench, place)) {
-        return false;
-    }
-    if (fields.target != 0) & !is_target(bench, 0x4000_0000 | fields.target) {
-        return false;
-    }
-    is_right(word, n)
-}
-
-// The glue count of what is bound; 0 where the width is past 64.
-pub fn count_on(bench: &[u32]) -> u32 {
-    let n = at(bench, WIDTH);
-    if n > 64 {
-        return 0;
-    }
-    let costs = Costs {
-        n: n as u64,
-        inverter: at(bench, 84) as u64,
-        gate: at(bench, 85) as u64,
-        multiplexer: at(bench, 86) as u64,
-    };
-    (glue_count(table_at(bench, BOUND), costs) % 0x1_0000_0000) as u32
-}
-
-// Every byte is a price.
-pub fn is_sound(bench: &[u32]) -> bool {
-    let n = at(bench, WIDTH);
-    let sources = at(bench, NSOURCES);
-    let targets = at(bench, NTARGETS);
-    if (n == 0) | (n > 64) | (sources == 0) | (sources > 27) | (targets > 27) {
-        return false;
-    }
-    if !table_fits(bench, 0, sources, 3) {
-        return false;
-    }
-    if !table_fits(bench, TARGETS, targets, 4) {
-        return false;
-    }
-    for (place, word) in table_at(bench, BOUND).iter().enumerate() {
-        if (*word != 0) && !may_be_bound(bench, *word, place) {
-            return false;
+    // With the count of what is bound, whatever it stored; 0 where the width is past 64.
+    pub fn counted(self) -> BenchWords {
+        BenchWords {
+            glue: self.count(),
+            ..self
         }
     }
-    at(bench, GLUE) == count_on(bench)
+
+    fn count(&self) -> u32 {
+        if self.width > 64 {
+            return 0;
+        }
+        let costs = Costs {
+            n: self.width as u64,
+            inverter: self.prices.inverter as u64,
+            gate: self.prices.gate as u64,
+            multiplexer: self.prices.multiplexer as u64,
+        };
+        (glue_count(&self.bound, costs) % 0x1_0000_0000) as u32
+    }
+
+    // A right rule of the source in an entry, from scratch or from a target of the table.
+    fn may_bind(&self, word: u32, entry: usize) -> bool {
+        let fields = fields_of(word);
+        if (fields.kind != 5) | refusal_of(word, self.width).is_some() {
+            return false;
+        }
+        let source = 0x3000_0000 | fields.source;
+        if (entry >= self.sources.count as usize) | (source != at(&self.sources.words, entry)) {
+            return false;
+        }
+        let target = 0x4000_0000 | fields.target;
+        if (fields.target != 0) & self.targets.entry_of(target).is_none() {
+            return false;
+        }
+        is_right(word, self.width)
+    }
+
+    pub fn is_sound(&self) -> bool {
+        let width = self.width;
+        let sources = self.sources.count;
+        if (width == 0)
+            | (width > 64)
+            | (sources == 0)
+            | (sources > 27)
+            | (self.targets.count > 27)
+        {
+            return false;
+        }
+        if !self.sources.fits(3) | !self.targets.fits(4) {
+            return false;
+        }
+        for (entry, word) in self.bound.iter().enumerate() {
+            if (*word != 0) && !self.may_bind(*word, entry) {
+                return false;
+            }
+        }
+        self.glue == self.count()
+    }
 }

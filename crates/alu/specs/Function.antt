@@ -9,16 +9,12 @@ use Rattle.alu.specs.declared.PortSet.{PortSet}
 use Rattle.alu.specs.declared.Kind.{Kind}
 use Rattle.alu.specs.declared.Kind.TheVariants.{Arithmetic, Logic, Comparison}
 
--- the number of no function
-abbrev pub no_function : ℕ
-no_function = 0
-
 -- The three kinds of function. Arithmetic: the two words and the bit that are added. Logic: the vector. Comparison: what is
 -- shown where I0 is less than I1, where they are equal, and where I0 is greater.
 -- "LIMPL and RIMPL, whose rows are exchanged [in Table 4]: Table 2 decides, LIMPL 1101, RIMPL 1011."
 abbrev pub functions : List Kind
 functions =
-    Logic 0  -- no_function
+    Logic 0  -- 0 no function
     ∷ Arithmetic I0 I1 ICIN  -- 1 ADD
     ∷ Arithmetic I0 NOT-I1 ICIN  -- 2 SUB
     ∷ Arithmetic NOT-I0 I1 ICIN  -- 3 RSUB

@@ -1,5 +1,4 @@
 // What the judge answers, at every width.
-use reference::trial::bears_out;
 use testing::say;
 use testing::tally::Tally;
 use verdict::Verdict;
@@ -28,8 +27,7 @@ fn of_verdict(verdict: Verdict, word: u32, n: u32) -> Judged {
     let Verdict::Wrong(witness) = verdict else {
         return Judged::Right;
     };
-    let shown = bears_out(word, n, told::witness_of(witness));
-    if shown {
+    if told::is_shown(word, n, witness) {
         Judged::Wrong
     } else {
         Judged::NotBorneOut

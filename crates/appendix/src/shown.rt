@@ -11,6 +11,20 @@ pub struct Both {
     pub recipe: Shown,
 }
 
+impl Both {
+    // What the source and the recipe show at a port.
+    pub fn at_port(self, port: Port) -> (u64, u64) {
+        (at_port(self.source, port), at_port(self.recipe, port))
+    }
+}
+
+// A width at which all operands can be tried in turn.
+#[derive(Clone, Copy)]
+pub struct Narrow {
+    pub n: u32,
+    pub ghost within: { (1 ≤ n) × (n ≤ 8) },
+}
+
 pub fn by_reference(word: u32, n: u32, at: Operands) -> Both {
     Both {
         source: evaluate(fields_of(word).source, n, at),
@@ -28,10 +42,8 @@ fn of_ports(ports: Ports) -> Shown {
 }
 
 // As the judge has them shown; zeros where an operand is out of range.
-pub fn by_library(word: u32, n: u32, at: Operands) -> Both
-    requires { (1 ≤ n) × (n ≤ 8) }
-{
-    let width = Width { n };
+pub fn by_library(word: u32, narrow: Narrow, at: Operands) -> Both {
+    let width = Width { n: narrow.n };
     let most = bits::ones(width);
     if (at.left > most) || (at.right > most) {
         return by_reference(0, 0, at);
@@ -51,7 +63,7 @@ pub fn by_library(word: u32, n: u32, at: Operands) -> Both
     }
 }
 
-pub fn at_port(shown: Shown, port: Port) -> u64 {
+fn at_port(shown: Shown, port: Port) -> u64 {
     match port {
         Port::O0 => shown.o0,
         Port::Ocout => shown.ocout as u64,

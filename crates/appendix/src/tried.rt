@@ -1,5 +1,6 @@
 // The book's rules tried by the reference, whole at small widths, above at corner operands and random ones.
 use crate::failures::operands_at;
+use crate::shown::Narrow;
 use reference::evaluator::Operands;
 use reference::recipe::first_difference;
 use reference::trial::{next, sampled};
@@ -19,8 +20,8 @@ fn trials(n: u32) -> u32 {
 }
 
 fn operands_of(n: u32, i: u32, seed: u64) -> Operands {
-    if n <= 3 {
-        return operands_at(n, i as u64);
+    if (1 <= n) & (n <= 3) {
+        return operands_at(Narrow { n }, i as u64);
     }
     sampled(n, i, seed)
 }
@@ -40,8 +41,7 @@ fn report_width(rt: &HostRuntime, words: &[u32], n: u32) {
     for word in words {
         try_rule(&mut tally, *word, n);
     }
-    say::count(rt, b"rules of the book by the reference, width ", n as u64);
-    say::report(rt, b"", tally);
+    let _ = println!(rt; "rules of the book by the reference, width {n}: {tally}");
 }
 
 pub fn report_tried(rt: &HostRuntime) {

@@ -11,6 +11,7 @@ use std::rt::Env;
 pub const MOST_BYTES: usize = 4096;
 
 // Puts an argument at the start of a buffer and answers its length, or 0 if there is no such argument or it is longer.
+// Kept: a lent buffer, since no heap is a rule of the project.
 pub fn put_argument(rt: &HostRuntime, index: usize, out: &mut [u8]) -> usize
     ensures { result ≤ length out.new }
 {

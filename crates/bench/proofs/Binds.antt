@@ -1,12 +1,11 @@
 -- The ways out of a bind.
 use mathlib.Core.Path.{◌≡◌, refl, sym, ap, subst, ◌∙◌}
-use mathlib.Core.Bool.{Bool, true, false, not}
+use mathlib.Core.Bool.{true, false, not}
 use Prim.Native.Nat.{ℕ, ◌<◌}
-use native.Mathlib.Omega.{arith}
 use lib.ListN.{length, set}
-use borrow.Author.Tests.{not-true, not-false}
-use Rattle.std.specs.Prelude.{if◌then◌else◌, Option, Some, None, Result, Ok, Err, ⊤}
-use Rattle.words.specs.Paper.{refusal, unless_fault}
+use borrow.Author.Tests.{not-false}
+use Rattle.std.specs.Prelude.{Option, Some, None, Result, Ok, Err, ⊤}
+use Rattle.words.specs.Paper.{unless_fault}
 use Rattle.words.specs.declared.Fault.{Fault}
 use Rattle.words.specs.declared.Refusal.{Refusal}
 use Rattle.words.specs.declared.Witness.{Witness}
@@ -16,17 +15,12 @@ use Rattle.verdict.specs.Verdicts.{Says}
 use Rattle.verdict.specs.declared.Verdict.{Verdict}
 use Rattle.verdict.specs.declared.Verdict.TheVariants as verdict
 use Rattle.verdict.proofs.Verdicting.{right_says, wrong_says}
-use Rattle.sequence.specs.Limits.{most_sources}
 use Rattle.table.proofs.Entries.{in_job-parts}
-use Rattle.soundness.specs.Sound.{sources_on, targets_on, tables_sound, rule_fault, glue_on}
-use Rattle.soundness.proofs.Soundness.{sound_tables}
-use Rattle.bench.specs.Calls.{bench_with, sound_bench, sound_check, holding, gives, refuses, in_tables, entry_for, has_binding, bound_at, table_check, bind_check, claim_on, bind_of, Binds}
-use Rattle.bench.specs.Shape.{Shaped}
+use Rattle.soundness.specs.Sound.{sources_on, targets_on, rule_fault}
+use Rattle.bench.specs.Calls.{sound_bench, holding, gives, in_tables, entry_for, has_binding, bound_at, table_check, bind_check, claim_on, bind_of, Binds}
 use Rattle.bench.specs.declared.Bench.{Bench}
 use Rattle.bench.specs.declared.CallError.TheVariants.{Wrong}
-use Rattle.entries.proofs.Tabled.{entry_few}
 use Rattle.entries.proofs.Searching.{place_of, lists_entry, entry_there}
-use Rattle.words.specs.declared.Fault.TheVariants.{AlreadyBound, NotInJob, NotSound}
 
 -- ---- the entry
 
@@ -42,73 +36,6 @@ at_place b f w h = ap (λ (x : Option ℕ). bound_at b x w) (entry_there (source
 pub tables_entry : (b : Bench) (w : ℕ) → in_tables b w ≡ true → place_for b (source_of w) < length (sources_on b.tables)
 tables_entry b w t =
     lists_entry (sources_on b.tables) (source_of w) (in_job-parts (sources_on b.tables) (targets_on b.tables) w t).0
-
--- what is put in the entry of a function's source
-module _ (b : Bench) (f w : ℕ) (r : Option ℕ) (er : r ≡ entry_for b f) where
-  pub put_within : (i : ℕ) → r ≡ Some i → Shaped b → tables_sound b.tables ≡ true → i < most_sources
-  put_within i e h s = entry_few b.tables f i r er e h.tables_shaped s
-
-  pub put_there : (i g : ℕ) → r ≡ Some i → g ≡ glue_on b.tables (set b.bound i w)
-      → bench_with b.tables (set b.bound i w) g ≡ bound_at b (entry_for b f) w
-  put_there i g e eg =
-      ap (bench_with b.tables (set b.bound i w)) eg ∙ ap (λ (x : Option ℕ). bound_at b x w) (sym e ∙ er)
-
--- ---- the refusals before 10
-
-module _ (b : Bench) (r : Result ⊤ Refusal) (er : r ≡ sound_check b) where
-  -- an unsound bench has refusal 20
-  pub unsound : {X : Type 0} (f : Refusal → X) (y : X) (x : Refusal) → r ≡ Err x
-      → f x ≡ (if not (sound_bench b) then f (refusal NotSound 0) else y)
-  unsound {X = X} f y x e = go (sound_bench b) (sym e ∙ er)
-    where
-      go : (p : Bool) → ◌≡◌ {A = Result ⊤ Refusal} (Err x) (if not p then Err (refusal NotSound 0) else Ok tt)
-          → f x ≡ (if not p then f (refusal NotSound 0) else y)
-      go true q = absurd (let z : ◌≡◌ {A = ℕ} 0 1 = cc in omega arith)
-      go false q = cc
-
-  pub passed_sound : (v : ⊤) → r ≡ Ok v → sound_bench b ≡ true
-  passed_sound v e = go (sound_bench b) (sym e ∙ er)
-    where
-      go : (p : Bool) → ◌≡◌ {A = Result ⊤ Refusal} (Ok v) (if not p then Err (refusal NotSound 0) else Ok tt) → p ≡ true
-      go true q = refl
-      go false q = absurd (let z : ◌≡◌ {A = ℕ} 0 1 = cc in omega arith)
-
-  pub passed_tables : (v : ⊤) → r ≡ Ok v → tables_sound b.tables ≡ true
-  passed_tables v e = sound_tables b.tables b.bound b.glue (passed_sound v e)
-
-  module _ (w : ℕ) where
-    pub bind_unsound : (x : Refusal) → r ≡ Err x → Err x ≡ bind_check b w
-    unfolding bind_check
-    bind_unsound x e = unsound Err _ x e
-
-    module _ (v : ⊤) (ok : r ≡ Ok v) (x : Option Fault) (ex : x ≡ rule_fault w) where
-      by_word : bind_check b w ≡ unless_fault x 0 (table_check b w)
-      unfolding bind_check
-      by_word = rw (passed_sound v ok) (ap (λ (y : Option Fault). unless_fault y 0 (table_check b w)) (sym ex))
-
-      pub bad_word : (fault : Fault) → x ≡ Some fault → Err (refusal fault 0) ≡ bind_check b w
-      bad_word fault h = sym (by_word ∙ ap (λ (y : Option Fault). unless_fault y 0 (table_check b w)) h)
-
-      module _ (hx : x ≡ None) (q : Bool) (eq : q ≡ in_tables b w) where
-        by_tables : table_check b w ≡ bind_check b w
-        by_tables = sym (by_word ∙ ap (λ (y : Option Fault). unless_fault y 0 (table_check b w)) hx)
-
-        pub bind_absent : not q ≡ true → Err (refusal NotInJob 0) ≡ bind_check b w
-        unfolding table_check
-        bind_absent h = rw (sym eq ∙ not-true q h) at by_tables
-
-        module _ (hq : not q ≡ false) (f : ℕ) (ef : f ≡ source_of w) (t : Bool) (et : t ≡ has_binding b f) where
-          by_entry : (if t then Err (refusal AlreadyBound (source_of w)) else Ok tt) ≡ bind_check b w
-          unfolding table_check
-          by_entry =
-              ap (λ (z : Bool). if z then Err (refusal AlreadyBound (source_of w)) else Ok tt) (et ∙ ap (has_binding b) ef)
-              ∙ (rw (sym eq ∙ not-false q hq) at by_tables)
-
-          pub bind_taken : t ≡ true → Err (refusal AlreadyBound f) ≡ bind_check b w
-          bind_taken h = ap (λ (y : ℕ). Err (refusal AlreadyBound y)) ef ∙ (rw h at by_entry)
-
-          pub bind_free : t ≡ false → Ok tt ≡ bind_check b w
-          bind_free h = rw h at by_entry
 
 -- ---- what a bind that is not refused before 10 has shown
 
@@ -135,17 +62,7 @@ checked b w =
 -- ---- the call
 
 module _ (b : Bench) (w : ℕ) (r : Result ⊤ Refusal) (er : r ≡ bind_check b w) where
-  pub bind_refused : (x : Refusal) → r ≡ Err x → Binds b w (refuses b x)
-  unfolding bind_of
-  bind_refused x e = rw (sym er ∙ e) refl
-
   module _ (u : ⊤) (ok : r ≡ Ok u) where
-    passed : Checked b w
-    passed = checked b w (sym er ∙ ok)
-
-    pub checked_tables : tables_sound b.tables ≡ true
-    checked_tables = sound_tables b.tables b.bound b.glue passed.sound
-
     module _ (v : Verdict) (says : Says (claim_on b w) b.tables.width v) where
       pub bind_right : (f : ℕ) (a : Bench) → v ≡ verdict.Right → f ≡ source_of w → a ≡ bound_at b (entry_for b f) w
           → Binds b w (gives a (Ok tt))

@@ -7,24 +7,20 @@ use native.Mathlib.Omega.{arith}
 use lib.Dec.{eqb}
 use lib.ListN.{length, take}
 use lib.Seq.{length-take-le}
-use Rattle.std.specs.Prelude.{if◌then◌else◌, is_some, Option, None, Some, Result, Ok, Err, ⊤}
+use Rattle.std.specs.Prelude.{if◌then◌else◌, is_some, Option, None, Some}
+use Rattle.sequence.specs.Limits.{most_sources}
 use Rattle.words.specs.Field.{source_function}
-use Rattle.words.specs.Paper.{refusal}
-use Rattle.words.specs.declared.Refusal.{Refusal}
 use Rattle.glue.proofs.Bounds.{glue_fits_lem}
-use Rattle.writer.specs.Asked.{Writable}
-use Rattle.writer.specs.Write.{mapping_words, written_of, lent_after}
+use Rattle.writer.specs.Write.{mapping_words, lent_after}
 use Rattle.soundness.specs.Sound.{sources_on, targets_on, filled, empty, entry_sound, bound_sound, glue_on}
 use Rattle.soundness.proofs.Soundness.{sound_holds, sound_sources, sound_width}
-use Rattle.bench.specs.Calls.{sound_bench, sound_check, bindings_on, gives, unbound_on, finish_written, finish_for, mapping_on, finish_of, lent_for, lent_after_finish}
+use Rattle.bench.specs.Calls.{sound_bench, bindings_on, unbound_on, mapping_on}
 use Rattle.entries.specs.Entries.{first_empty}
+use Rattle.bench.specs.Held.{bench_held}
 use Rattle.bench.specs.Shape.{Shaped}
 use Rattle.bench.specs.declared.Bench.{Bench}
-use Rattle.bench.specs.declared.CallError.{CallError}
-use Rattle.bench.specs.declared.CallError.TheVariants.{Refused}
-use Rattle.bench.proofs.Binds.{unsound, passed_sound}
+use Rattle.bench.specs.declared.sound.SoundBench.{SoundBench}
 use Rattle.bench.proofs.Shapes.{sources_taken}
-use Rattle.words.specs.declared.Fault.TheVariants.{Unbound}
 
 -- ---- every source bound: the bindings are the first entries
 
@@ -78,62 +74,25 @@ module _ (b : Bench) (h : Shaped b) (s : sound_bench b ≡ true) where
       (record { inverter_fits = q.inverter_fits; gate_fits = q.gate_fits; multiplexer_fits = q.multiplexer_fits }) in
       omega (arith, (sound_holds b.tables b.bound b.glue s).count, most)
 
-  pub mapping_writable : Writable b.tables.width b.glue (take b.tables.nsources b.bound)
-  mapping_writable =
-      record {
-        width_fits = (sound_width b.tables b.bound b.glue s).most;
-        glue_fits = stored_fits;
-        few_bound = omega (arith, bound_taken, sound_sources b.tables b.bound b.glue s);
-      }
+-- ---- the writing
 
-  -- ---- the writing
+module _ (s : SoundBench) (h : Shaped (bench_held s)) where
+  pub entries_fit : s.tables.tables.nsources ≤ length s.bound
+  entries_fit = bound_fit (bench_held s) h s.sound
 
-  pub words_written_lem : (lent : List ℕ) (r : Result ℕ Refusal) → r ≡ written_of (length (take b.tables.nsources b.bound)) lent
-      → r ≡ written_of b.tables.nsources lent
-  words_written_lem lent r er = er ∙ ap (λ (x : ℕ). written_of x lent) (sym bound_taken)
+  pub entries_taken : s.tables.tables.nsources ≡ length (take s.tables.tables.nsources s.bound)
+  entries_taken = bound_taken (bench_held s) h s.sound
 
-  pub mapping_laid : unbound_on b ≡ None → (lent m : List ℕ)
-      → m ≡ lent_after (mapping_words b.tables.width (take b.tables.nsources b.bound) b.glue) lent
-      → m ≡ lent_after (mapping_on b) lent
-  mapping_laid u lent m e = e ∙ (λ i. lent_after (mapping_words b.tables.width (all_bound u i) b.glue) lent)
+  pub held_width : s.tables.tables.width ≤ 64
+  held_width = (sound_width s.tables.tables s.bound s.glue s.sound).most
 
--- ---- the call
+  pub held_count : s.glue < 2 ^ 28
+  held_count = stored_fits (bench_held s) h s.sound
 
-module _ (b : Bench) (lent : List ℕ) (r : Result ⊤ Refusal) (er : r ≡ sound_check b) where
-  pub finish_unsound : (x : Refusal) → r ≡ Err x → gives b (Err (Refused x)) ≡ finish_of b lent
-  unfolding finish_of
-  finish_unsound x e = ap (gives b) (unsound b r er (λ y. Err (Refused y)) _ x e)
+  pub held_few : length (take s.tables.tables.nsources s.bound) ≤ most_sources
+  held_few = omega (arith, entries_taken, sound_sources s.tables.tables s.bound s.glue s.sound)
 
-  pub unsound_kept : (x : Refusal) → r ≡ Err x → lent ≡ lent_after_finish b lent
-  unfolding lent_after_finish
-  unsound_kept x e = unsound b r er (λ _. lent) _ x e
-
-  module _ (v : ⊤) (ok : r ≡ Ok v) (u : Option ℕ) (eu : u ≡ unbound_on b) where
-    pub finish_unbound : (f : ℕ) → u ≡ Some f → gives b (Err (Refused (refusal Unbound f))) ≡ finish_of b lent
-    unfolding finish_of
-    finish_unbound f e = rw (passed_sound b r er v ok) (ap (λ (x : Option ℕ). gives b (finish_for b lent x)) (sym e ∙ eu))
-
-    pub unbound_kept : (f : ℕ) → u ≡ Some f → lent ≡ lent_after_finish b lent
-    unfolding lent_after_finish
-    unbound_kept f e = rw (passed_sound b r er v ok) (ap (lent_for b lent) (sym e ∙ eu))
-
-    module _ (hu : u ≡ None) where
-      pub all_sources_bound : unbound_on b ≡ None
-      all_sources_bound = sym eu ∙ hu
-
-      module _ (a : Result ℕ Refusal) (ea : a ≡ written_of b.tables.nsources lent) where
-        written : (c : Result ℕ CallError) → c ≡ finish_written a → gives b c ≡ finish_of b lent
-        unfolding finish_of
-        written c e =
-            rw (passed_sound b r er v ok)
-            (ap (gives b) (e ∙ ap finish_written ea ∙ ap (finish_for b lent) (sym all_sources_bound)))
-
-        pub words_written : (n : ℕ) → a ≡ Ok n → gives b (Ok n) ≡ finish_of b lent
-        words_written n e = written (Ok n) (ap finish_written (sym e))
-
-        pub words_lacking : (x : Refusal) → a ≡ Err x → gives b (Err (Refused x)) ≡ finish_of b lent
-        words_lacking x e = written (Err (Refused x)) (ap finish_written (sym e))
-
-      pub lent_written : (m : List ℕ) → m ≡ lent_after (mapping_on b) lent → m ≡ lent_after_finish b lent
-      unfolding lent_after_finish
-      lent_written m e = rw (passed_sound b r er v ok) (e ∙ ap (lent_for b lent) (sym all_sources_bound))
+  pub mapping_laid : unbound_on (bench_held s) ≡ None → (lent m : List ℕ)
+      → m ≡ lent_after (mapping_words s.tables.tables.width (take s.tables.tables.nsources s.bound) s.glue) lent
+      → m ≡ lent_after (mapping_on (bench_held s)) lent
+  mapping_laid u lent m e = e ∙ (λ i. lent_after (mapping_words s.tables.tables.width (all_bound (bench_held s) h s.sound u i) s.glue) lent)

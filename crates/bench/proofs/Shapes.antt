@@ -12,6 +12,9 @@ use Rattle.soundness.proofs.Shapes as tables
 use Rattle.bench.specs.Shape.{Shaped}
 use Rattle.bench.specs.declared.Bench.{Bench}
 use Rattle.bench.specs.contracts.Bench.{the_type}
+use Rattle.bench.specs.Held.{bench_held}
+use Rattle.bench.specs.declared.sound.SoundBench.{SoundBench}
+use Rattle.bench.specs.contracts.sound.SoundBench as sound
 
 pub shaped : (b : Bench) (vs : List Val) → Is (row the_type) b vs → Shaped b
 shaped b vs g =
@@ -20,11 +23,15 @@ shaped b vs g =
       bound_entries = g.1.1.1.0.1.0.1;
     }
 
+pub held_shaped : (s : SoundBench) (vs : List Val) → Is (row sound.the_type) s vs → Shaped (bench_held s)
+held_shaped s vs g =
+    record {
+      tables_shaped = tables.sound_shaped s.tables _ g.1.1.0;
+      bound_entries = g.1.1.1.0.1.0.1;
+    }
+
 -- ---- so many sources are there
 
 module _ (b : Bench) (h : Shaped b) (few : b.tables.nsources ≤ most_sources) where
   pub sources_taken : b.tables.nsources ≡ length (sources_on b.tables)
   sources_taken = tables.sources_taken b.tables h.tables_shaped few
-
-  pub sources_few : length (sources_on b.tables) ≤ most_sources
-  sources_few = tables.sources_few b.tables h.tables_shaped few

@@ -1,8 +1,10 @@
 // Soundness, and the refusals of a bind before 10.
 ghost use Rattle.std.specs.Prelude.{◌≡◌};
 ghost use Rattle.bench.specs.Calls as C;
+ghost use Rattle.bench.specs.Held as H;
 
-use crate::Bench;
+use crate::{Bench, SoundBench};
+use soundness::SoundTables;
 use words::{Fault, Refusal};
 
 pub fn is_sound(bench: Bench) -> bool
@@ -14,8 +16,9 @@ pub fn is_sound(bench: Bench) -> bool
 }
 
 // Refusal 20, which comes before all others.
-pub fn sound(bench: Bench) -> Result<(), Refusal>
-    ensures { result ≡ C.sound_check bench }
+#[tactic(auto, using(soundness::proofs::Soundness::sound_tables))]
+pub fn sound(bench: Bench) -> Result<SoundBench, Refusal>
+    ensures { H.held_or result ≡ C.sound_check bench }
 {
     if !is_sound(bench) {
         return Err(Refusal {
@@ -23,14 +26,22 @@ pub fn sound(bench: Bench) -> Result<(), Refusal>
             place: 0,
         });
     }
-    Ok(())
+    let tables = SoundTables {
+        tables: bench.tables,
+    };
+    let bound = bench.bound;
+    Ok(SoundBench {
+        tables,
+        bound,
+        glue: bench.glue,
+    })
 }
 
-// Refusals 20, 2, 3, 5, 6, 8 and 21 of a bind: at the word, but for 21, which is at the function.
-pub fn bind_check(bench: Bench, word: u32) -> Result<(), Refusal>
-    ensures { result ≡ C.bind_check bench word }
+// Refusals 2, 3, 5, 6, 8 and 21 of a bind: at the word, but for 21, which is at the function.
+#[tactic(auto, unfolding(crate::specs::Calls::bind_check, crate::specs::Calls::table_check))]
+pub fn bind_check(bench: SoundBench, word: u32) -> Result<(), Refusal>
+    ensures { result ≡ C.bind_check (H.bench_held bench) word }
 {
-    sound(bench)?;
     if let Some(fault) = soundness::rule_fault(word) {
         return Err(Refusal { fault, place: 0 });
     }

@@ -3,19 +3,20 @@
 #![tactic(auto)]
 
 mod faults;
+mod sound;
 
-ghost use Rattle.std.specs.Prelude.{◌≡◌, true, None};
-ghost use Rattle.writer.specs.Write as W;
-ghost use Rattle.soundness.specs.Sound as S;
+ghost use Rattle.std.specs.Prelude.{◌≡◌};
 ghost use Rattle.bench.specs.Calls as C;
 ghost use Rattle.bench.specs.declared.CallError.TheVariants.{Refused};
 
 use sequence::MOST_SOURCES;
+use sound::SoundBench;
 use soundness::{NOTHING, Tables};
-use verdict::Verdict;
-use words::{Fault, Refusal, Witness};
+use table::JobWords;
+use words::{Refusal, Witness};
 
 // A job's tables, an entry for each source, in table order, for what is bound to it, and the glue count of what is bound.
+// Kept: the entries beside the tables, as document 01 has a bench, which is copied and compared whole.
 #[derive(Clone, Copy)]
 pub struct Bench {
     pub tables: Tables,
@@ -64,20 +65,9 @@ pub fn zeros() -> Bench
     empty_bench(opening::tables_of_zeros())
 }
 
-// Writes the mapping of a bench whose sources are all bound: refusal 23.
-fn write(bench: Bench, lent: &mut [u32]) -> Result<usize, Refusal>
-    requires { (C.sound_bench bench ≡ true) × (C.unbound_on bench ≡ None) }
-    ensures answer { result ≡ W.written_of bench.tables.nsources lent.old }
-    ensures written { lent.new ≡ W.lent_after (C.mapping_on bench) lent.old }
-{
-    let tables = bench.tables;
-    let nsources = tables.nsources as usize;
-    let bound = bench.bound;
-    writer::write_mapping(tables.width, &bound[..nsources], bench.glue, lent)
-}
-
 impl Bench {
     // Opens a job: refusals 1 to 6, and then the bench of zeros.
+    #[tactic(auto, unfolding(crate::specs::Calls::open_of))]
     pub fn open(words: &[u32]) -> After<()>
         ensures { result ≡ C.open_of words.now }
     {
@@ -87,25 +77,10 @@ impl Bench {
                 answer: Err(CallError::Refused(refusal)),
             },
             Ok(job) => After {
-                bench: empty_bench(opening::tables_of(words, job)),
+                bench: empty_bench(opening::tables_of(&JobWords { words, job })),
                 answer: Ok(()),
             },
         }
-    }
-
-    // The bench with a word, or NOTHING, in the entry of a function's source, and the count of what is bound then.
-    fn put(mut self, function: u32, word: u32) -> Bench
-        requires { S.tables_sound self.tables ≡ true }
-        ensures { result ≡ C.bound_at self (C.entry_for self function) word }
-    {
-        let tables = self.tables;
-        let Some(entry) = entries::entry_for(tables, function) else {
-            return self;
-        };
-        self.bound[entry] = word;
-        let bound = self.bound;
-        self.glue = soundness::glue_on(tables, bound);
-        self
     }
 
     // The bench that comes next, or this one with the refusal.
@@ -125,15 +100,12 @@ impl Bench {
     }
 
     // The bench with a rule bound.
+    #[tactic(auto, unfolding(crate::specs::Calls::bind_of, crate::specs::Calls::bind_check))]
     fn bound(self, word: u32) -> Result<Bench, CallError>
         ensures { C.Binds self word (C.next_of self result) }
     {
-        faults::bind_check(self, word)?;
-        let verdict = entries::verdict_on(self.tables, word);
-        match verdict {
-            Verdict::Wrong(witness) => Err(CallError::Wrong(witness)),
-            Verdict::Right => Ok(self.put(recipe::source_of(word), word)),
-        }
+        let sound = faults::sound(self)?;
+        sound.bound(word)
     }
 
     // Binds a rule: refusals 20, 2, 3, 5, 6, 8, 21, 10.
@@ -144,18 +116,12 @@ impl Bench {
     }
 
     // The bench with the binding of a function taken off.
+    #[tactic(auto, unfolding(crate::specs::Calls::release_of))]
     fn released(self, function: u32) -> Result<Bench, CallError>
         ensures { C.next_of self result ≡ C.release_of self function }
     {
-        faults::sound(self)?;
-        let bound = self.bound;
-        if !entries::is_bound(self.tables, bound, function) {
-            return Err(CallError::Refused(Refusal {
-                fault: Fault::NotBound,
-                place: function as usize,
-            }));
-        }
-        Ok(self.put(function, NOTHING))
+        let sound = faults::sound(self)?;
+        sound.released(function)
     }
 
     // Takes the binding of a function off: refusals 20, 24.
@@ -166,11 +132,12 @@ impl Bench {
     }
 
     // The stored count of a sound bench.
+    #[tactic(auto, unfolding(crate::specs::Calls::price_of))]
     fn count(self) -> Result<u32, CallError>
         ensures { C.gives self result ≡ C.price_of self }
     {
-        faults::sound(self)?;
-        Ok(self.glue)
+        let sound = faults::sound(self)?;
+        Ok(sound.glue)
     }
 
     // The glue count of what is bound, as it is stored: refusal 20.
@@ -184,20 +151,13 @@ impl Bench {
     }
 
     // How many words of the mapping are written into lent words.
+    #[tactic(auto, unfolding(crate::specs::Calls::finish_of, crate::specs::Calls::lent_after_finish))]
     fn mapped(self, lent: &mut [u32]) -> Result<usize, CallError>
         ensures answer { C.gives self result ≡ C.finish_of self lent.old }
         ensures written { lent.new ≡ C.lent_after_finish self lent.old }
     {
-        faults::sound(self)?;
-        let bound = self.bound;
-        if let Some(unbound) = entries::unbound_on(self.tables, bound) {
-            return Err(CallError::Refused(Refusal {
-                fault: Fault::Unbound,
-                place: unbound as usize,
-            }));
-        }
-        let count = write(self, lent)?;
-        Ok(count)
+        let sound = faults::sound(self)?;
+        sound.mapped(lent)
     }
 
     // Writes the mapping into lent words: refusals 20, 22, 23.

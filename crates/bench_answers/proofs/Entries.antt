@@ -1,6 +1,6 @@
--- The lines of a bench's entries put one after the other: what stands, with the lines that are left, is the whole text.
-use mathlib.Core.Path.{◌≡◌, sym, ap, ◌∙◌}
-use mathlib.Core.List.{List, ◌++◌, append_assoc, append-nil}
+-- The lines that are left of a bench's entries, by the next one and at their end; and the room for them.
+use mathlib.Core.Path.{◌≡◌, refl, sym, ap, ◌∙◌}
+use mathlib.Core.List.{List, ◌++◌, append-nil}
 use Prim.Native.Nat.{ℕ, ◌+◌, ◌≤◌, ◌<◌}
 use native.Mathlib.Omega.{arith}
 use lib.ListN.{length, drop, get_or, drop_of_length-le}
@@ -17,19 +17,15 @@ use Rattle.bench_answers.specs.Asked.{most_text_bytes, EntryRoom}
 
 -- ---- all of them
 
-module _ (sources bound text whole : List ℕ) (i : ℕ) (e : text ++ entry_lines (drop i sources) (drop i bound) ≡ whole) where
-  pub one_entry : (after : List ℕ) → length sources ≤ length bound → i < length sources
-      → after ≡ text ++ entry_line (get_or sources i 0) (get_or bound i 0)
-      → after ++ entry_lines (drop (i + 1) sources) (drop (i + 1) bound) ≡ whole
-  unfolding entry_lines
-  one_entry after l h p =
-      let rest = entry_lines (drop (i + 1) sources) (drop (i + 1) bound) in
-      ap (λ (a : List ℕ). a ++ rest) p ∙ append_assoc text (entry_line (get_or sources i 0) (get_or bound i 0)) rest
-      ∙ rw (drop-next sources i h, drop-next bound i (omega arith)) at e
+pub entry_next : (sources bound : List ℕ) (i : ℕ) → i < length sources → length sources ≤ length bound
+    → entry_lines (drop i sources) (drop i bound)
+    ≡ entry_line (get_or sources i 0) (get_or bound i 0) ++ entry_lines (drop (i + 1) sources) (drop (i + 1) bound)
+unfolding entry_lines
+entry_next sources bound i h l = rw (drop-next sources i h, drop-next bound i (omega arith)) refl
 
-  pub all_entries : length sources ≤ i → text ≡ whole
-  unfolding entry_lines
-  all_entries h = sym (append-nil text) ∙ rw (drop_of_length-le sources h) at e
+pub entries_end : (text sources bound : List ℕ) (i : ℕ) → length sources ≤ i → text ++ entry_lines (drop i sources) (drop i bound) ≡ text
+unfolding entry_lines
+entries_end text sources bound i h = rw (drop_of_length-le sources h) (append-nil text)
 
 -- ---- a bench
 

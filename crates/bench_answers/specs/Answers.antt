@@ -10,6 +10,7 @@ use Rattle.writer.specs.Write.{binding_word}
 use Rattle.soundness.specs.Sound.{nothing, sources_on}
 use Rattle.console.specs.declared.Failed.{Failed}
 use Rattle.input.specs.declared.Input.{Input}
+use Rattle.input.specs.Read.{cut_at}
 use Rattle.commands.specs.declared.Command.{Command}
 use Rattle.commands.specs.declared.Command.TheVariants as command
 use Rattle.bench.specs.Calls.{refuses, bench_of_zeros, open_of, Binds, release_of, price_of, finish_of, lent_after_finish}
@@ -47,8 +48,12 @@ pub record SaysCall {A : Type 0} (call : After A) (given : A → List ℕ) (word
 
 -- ---- the job's file: "a last word cut short is 2 at its index, before all else"
 
-unfoldable pub open_input : List ℕ → Input → After ⊤
-open_input job input = if input.cut then refuses bench_of_zeros (refusal OutOfSequence input.whole) else open_of job
+abbrev pub open_at : Option ℕ → List ℕ → After ⊤
+open_at (Some place) job = refuses bench_of_zeros (refusal OutOfSequence place)
+open_at None job = open_of job
+
+unfoldable pub open_input : Input → After ⊤
+open_input input = open_at (cut_at input) input.words
 
 -- the bench, of a job that is opened
 abbrev pub opened_bench : After ⊤ → Option Bench
@@ -59,9 +64,9 @@ pub record SaysOpened (call : After ⊤) (old new : List ℕ) (r : Option Bench)
   pub text : new ≡ old ++ answer_text (λ _. bytes "OPENED\n") call.answer
 
 -- by whether the file was read: one that could not be read is not opened, and nothing is put
-abbrev pub SaysInput : List ℕ → Result Input Failed → List ℕ → List ℕ → Option Bench → Type 0
-SaysInput job (Err e) old new r = (r ≡ None) × (new ≡ old)
-SaysInput job (Ok input) old new r = SaysOpened (open_input job input) old new r
+abbrev pub SaysInput : Result Input Failed → List ℕ → List ℕ → Option Bench → Type 0
+SaysInput (Err e) old new r = (r ≡ None) × (new ≡ old)
+SaysInput (Ok input) old new r = SaysOpened (open_input input) old new r
 
 -- ---- show: a line for each source, as map_job prints a binding, or its name and " -"
 

@@ -109,6 +109,7 @@ fn entry_line(source: u32, word: u32, text: &mut Text)
 }
 
 // The lines of sources, with what is bound in the entry of each.
+#[tactic(auto, using(std::proofs::lemmas::List::append_assoc, crate::proofs::Entries::entry_next, crate::proofs::Entries::entries_end))]
 fn put_entries(sources: &[u32], bound: &[u32], text: &mut Text)
     requires { Q.EntryRoom sources.now bound.now text.old }
     ensures { text.new ≡ text.old ++ S.entry_lines sources.now bound.now }
@@ -119,6 +120,7 @@ fn put_entries(sources: &[u32], bound: &[u32], text: &mut Text)
 }
 
 // A line for each source of a bench.
+#[tactic(auto, using(bench::proofs::Shapes::shaped, crate::proofs::Entries::full_room, crate::proofs::Entries::full_table, crate::proofs::Entries::few_fit, crate::proofs::Entries::few_taken, crate::proofs::Entries::few_room))]
 fn put_bench(bench: Bench, text: &mut Text)
     requires { length text.old + Q.most_text_bytes ≤ room }
     ensures { text.new ≡ text.old ++ S.bench_text bench }
@@ -160,6 +162,7 @@ fn words_of(answer: Result<usize, CallError>) -> usize
 }
 
 // What is said of a finish. The mapping is written into lent words.
+#[tactic(auto, using(crate::proofs::Within::finish_within_now, crate::proofs::Within::words_within))]
 fn finish(bench: Bench, lent: &mut [u32], text: &mut Text) -> Worked
     requires { Q.Room lent.old text.old }
     ensures fits { result.words ≤ length lent.old }
@@ -208,30 +211,31 @@ pub fn work(bench: Bench, command: Option<Command>, lent: &mut [u32], text: &mut
 }
 
 // The answer to a job's file: a last word cut short comes before all else.
-fn open_input(job: &[u32], input: Input) -> After<()>
-    ensures { result ≡ S.open_input job.now input }
+#[tactic(auto, unfolding(crate::specs::Answers::open_input))]
+fn open_input(input: &Input) -> After<()>
+    ensures { result ≡ S.open_input input.now }
 {
-    if input.cut {
-        return After {
+    match input.cut_at() {
+        Some(place) => After {
             bench: bench::zeros(),
             answer: Err(CallError::Refused(Refusal {
                 fault: Fault::OutOfSequence,
-                place: input.whole,
+                place,
             })),
-        };
+        },
+        None => Bench::open(input.words()),
     }
-    Bench::open(job)
 }
 
-// What is said of a job's file: the words that were kept of it, and what was read, if it could be; and its bench, if it was opened.
-pub fn open(job: &[u32], input: Result<Input, Failed>, text: &mut Text) -> Option<Bench>
+// What is said of a job's file, if it could be read; and its bench, if it was opened.
+pub fn open(input: Result<Input, Failed>, text: &mut Text) -> Option<Bench>
     requires { length text.old + most_line_bytes ≤ room }
-    ensures { S.SaysInput job.now input text.old text.new result }
+    ensures { S.SaysInput input text.old text.new result }
 {
     let Ok(input) = input else {
         return None;
     };
-    let call = open_input(job, input);
+    let call = open_input(&input);
     match call.answer {
         Ok(()) => {
             text.put(b"OPENED\n");

@@ -1,73 +1,60 @@
-// The bench's calls, on benches as the second account has them: 88 words. Here alone a bench and its answers are taken apart.
-use crate::files::{LENT, lent_holds};
-use accounts::sound::{BENCH_WORDS, BOUND, GLUE, NSOURCES, NTARGETS, TARGETS, WIDTH};
+// The bench's calls, on benches as the second account has them. Here alone a bench and its answers are taken apart.
+use accounts::sound;
+use accounts::sound::{BenchWords, Table};
 use bench::{After, Bench, CallError};
 use reference::answer::{Answer, Given, Subject, wrong};
-use reference::trial::{Witness, bears_out};
 use soundness::Tables;
-use testing::words::after;
+use testing::words::{JOB, LENT, MAPPING, lent_holds};
 use words::Prices;
 
-// The 27 words of a bench from an index on.
-fn table_of(words: &[u32], from: usize) -> [u32; 27] {
-    let mut table = [0u32; 27];
-    for (entry, word) in table.iter_mut().zip(after(words, from)) {
-        *entry = *word;
-    }
-    table
-}
-
-fn bench_of(words: [u32; BENCH_WORDS]) -> Bench {
+fn bench_of(words: BenchWords) -> Bench {
     let prices = Prices {
-        inverter: (words[84] % 256) as u8,
-        gate: (words[85] % 256) as u8,
-        multiplexer: (words[86] % 256) as u8,
+        inverter: words.prices.inverter,
+        gate: words.prices.gate,
+        multiplexer: words.prices.multiplexer,
     };
+    let sources = words.sources.words;
+    let targets = words.targets.words;
+    let bound = words.bound;
     let tables = Tables {
-        width: words[WIDTH],
+        width: words.width,
         prices,
-        sources: table_of(&words, 0),
-        nsources: words[NSOURCES],
-        targets: table_of(&words, TARGETS),
-        ntargets: words[NTARGETS],
+        sources,
+        nsources: words.sources.count,
+        targets,
+        ntargets: words.targets.count,
     };
     Bench {
         tables,
-        bound: table_of(&words, BOUND),
-        glue: words[GLUE],
+        bound,
+        glue: words.glue,
     }
 }
 
-// Sets the words of a bench from an index on.
-fn put_table(words: &mut [u32], from: usize, table: [u32; 27]) {
-    for (word, entry) in words.iter_mut().skip(from).zip(table) {
-        *word = entry;
-    }
-}
-
-fn words_of(bench: Bench) -> [u32; BENCH_WORDS] {
+fn words_of(bench: Bench) -> BenchWords {
     let tables = bench.tables;
-    let prices = tables.prices;
+    let prices = sound::Prices {
+        inverter: tables.prices.inverter,
+        gate: tables.prices.gate,
+        multiplexer: tables.prices.multiplexer,
+    };
     let sources = tables.sources;
     let targets = tables.targets;
     let bound = bench.bound;
-    let mut words = [0u32; BENCH_WORDS];
-    put_table(&mut words, 0, sources);
-    put_table(&mut words, TARGETS, targets);
-    put_table(&mut words, BOUND, bound);
-    words[WIDTH] = tables.width;
-    words[NSOURCES] = tables.nsources;
-    words[NTARGETS] = tables.ntargets;
-    words[84] = prices.inverter as u32;
-    words[85] = prices.gate as u32;
-    words[86] = prices.multiplexer as u32;
-    words[GLUE] = bench.glue;
-    words
-}
-
-// Whether a witness shows that a rule is wrong at a width.
-fn is_shown(rule: u32, n: u32, witness: words::Witness) -> bool {
-    bears_out(rule, n, told::witness_of(witness))
+    BenchWords {
+        width: tables.width,
+        prices,
+        sources: Table {
+            words: sources,
+            count: tables.nsources,
+        },
+        targets: Table {
+            words: targets,
+            count: tables.ntargets,
+        },
+        bound,
+        glue: bench.glue,
+    }
 }
 
 // The answer to a call with a rule, 0 where it has none, on a bench of a width.
@@ -76,7 +63,11 @@ fn answer_of(answer: Result<Given, CallError>, rule: u32, n: u32) -> Answer {
         Ok(given) => Ok(given),
         Err(CallError::Refused(refusal)) => Err(told::refusal_of(Subject::Word, refusal)),
         Err(CallError::Wrong(witness)) => {
-            Err(wrong(Subject::Word, witness.function, is_shown(rule, n, witness)))
+            Err(wrong(
+                Subject::Word,
+                witness.function,
+                told::is_shown(rule, n, witness),
+            ))
         }
     }
 }
@@ -86,7 +77,7 @@ fn answer_of(answer: Result<Given, CallError>, rule: u32, n: u32) -> Answer {
 #[derive(Clone, Copy)]
 pub struct Told {
     pub answer: Answer,
-    pub bench: [u32; BENCH_WORDS],
+    pub bench: BenchWords,
     pub untouched: bool,
     pub printed: bool,
 }
@@ -94,10 +85,10 @@ pub struct Told {
 fn told_by(bench: Bench, answer: Result<Given, CallError>, lent: &[u32], rule: u32) -> Told {
     let bench = words_of(bench);
     Told {
-        answer: answer_of(answer, rule, bench[WIDTH]),
+        answer: answer_of(answer, rule, bench.width),
         bench,
-        untouched: lent_holds(lent, 0),
-        printed: lent_holds(lent, 6),
+        untouched: lent_holds(lent, &[]),
+        printed: lent_holds(lent, &MAPPING),
     }
 }
 
@@ -110,39 +101,39 @@ pub fn open(job: &[u32]) -> Told {
     told_by_step(Bench::open(job), 0)
 }
 
-pub fn bind(words: [u32; BENCH_WORDS], rule: u32) -> Told {
+pub fn bind(words: BenchWords, rule: u32) -> Told {
     let bench = bench_of(words);
     told_by_step(bench.bind(rule), rule)
 }
 
-pub fn release(words: [u32; BENCH_WORDS], function: u32) -> Told {
+pub fn release(words: BenchWords, function: u32) -> Told {
     let bench = bench_of(words);
     told_by_step(bench.release(function), 0)
 }
 
-pub fn price(words: [u32; BENCH_WORDS]) -> Told {
+pub fn price(words: BenchWords) -> Told {
     let after = bench_of(words).price();
     let answer = after.answer.map(|count| Given::Count(count as u64));
     told_by(after.bench, answer, &[], 0)
 }
 
-fn finish_into(words: [u32; BENCH_WORDS], lent: &mut [u32]) -> Told {
+fn finish_into(words: BenchWords, lent: &mut [u32]) -> Told {
     let after = bench_of(words).finish(lent);
     let answer = after.answer.map(Given::Words);
     told_by(after.bench, answer, lent, 0)
 }
 
 // Finishes into so many lent words, 32 at most.
-pub fn finish(words: [u32; BENCH_WORDS], size: usize) -> Told {
+pub fn finish(words: BenchWords, size: usize) -> Told {
     let mut lent = [LENT; 32];
     finish_into(words, &mut lent[..size.min(32)])
 }
 
 // Whether the checker accepts the words that a bench of the printed job writes.
-pub fn is_accepted(words: [u32; BENCH_WORDS]) -> bool {
+pub fn is_accepted(words: BenchWords) -> bool {
     let bench = bench_of(words);
     let mut lent = [LENT; 6];
     let after = bench.finish(&mut lent);
-    let checked = checker::check(&testing::words::JOB, &lent);
+    let checked = checker::check(&JOB, &lent);
     if let Ok(()) = checked { true } else { false }
 }

@@ -7,13 +7,15 @@ pub fn answer(rt: &HostRuntime, name: &[u8], told: Answer) {
     say::text(rt, name);
     match told {
         Ok(Given::Nothing) => say::text(rt, b": done"),
-        Ok(Given::Count(count)) => say::count(rt, b": price ", count),
-        Ok(Given::Words(size)) => say::count(rt, b": words written ", size as u64),
-        Err(refusal) => say::line(
-            rt,
-            b": refused # #",
-            &[refusal.number as u64, refusal.place as u64],
-        ),
+        Ok(Given::Count(count)) => {
+            let _ = print!(rt; ": price {count}");
+        }
+        Ok(Given::Words(size)) => {
+            let _ = print!(rt; ": words written {size}");
+        }
+        Err(refusal) => {
+            let _ = print!(rt; ": refused {} {}", refusal.number, refusal.place);
+        }
     }
 }
 

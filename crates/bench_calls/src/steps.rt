@@ -1,7 +1,7 @@
 // A bind or a release, as the tests take them one after another.
 use crate::calls;
 use crate::calls::Told;
-use accounts::sound::BENCH_WORDS;
+use accounts::sound::BenchWords;
 use testing::say;
 
 #[derive(Clone, Copy)]
@@ -13,7 +13,7 @@ pub enum Step {
 }
 
 impl Step {
-    pub fn taken_on(self, bench: [u32; BENCH_WORDS]) -> Told {
+    pub fn taken_on(self, bench: BenchWords) -> Told {
         match self {
             Step::Bind(rule) => calls::bind(bench, rule),
             Step::Release(function) => calls::release(bench, function),
@@ -23,7 +23,9 @@ impl Step {
     pub fn say(self, rt: &HostRuntime) {
         match self {
             Step::Bind(rule) => say::word(rt, b"    bind ", rule),
-            Step::Release(function) => say::count(rt, b"    release ", function as u64),
+            Step::Release(function) => {
+                let _ = print!(rt; "    release {function}");
+            }
         }
     }
 }

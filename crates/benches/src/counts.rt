@@ -1,7 +1,7 @@
 // The bench of the printed job with all bound, handed in with counts that are its own and others.
-use accounts::sound::{BENCH_WORDS, GLUE};
+use accounts::sound::BenchWords;
 use bench_calls::calls::Told;
-use bench_calls::files::{ADD_RULE, ALL, Made};
+use bench_calls::files::{ADD_RULE, Made, RULES};
 use bench_calls::{calls, lines};
 use testing::say;
 
@@ -9,16 +9,16 @@ use testing::say;
 const COUNTS: [u32; 8] = [148, 147, 149, 0, 0xFFFF_FFFF, 76, 157, 0x8000_0094];
 
 // What a call says, and whether the bench and the lent words are as they were.
-fn show_call(rt: &HostRuntime, name: &[u8], told: Told, bench: [u32; BENCH_WORDS]) {
+fn show_call(rt: &HostRuntime, name: &[u8], told: Told, bench: BenchWords) {
     let answer = told.answer;
     lines::answer(rt, name, answer);
     lines::whether(rt, (told.bench == bench) & told.untouched, b" kept", b"");
 }
 
 fn show_count(rt: &HostRuntime, count: u32) {
-    let mut bench = Made::Printed(16, ALL).words();
-    bench[GLUE] = count;
-    say::count(rt, b"    stored ", count as u64);
+    let mut bench = Made::Printed(16, &RULES).words();
+    bench.glue = count;
+    let _ = print!(rt; "    stored {count}");
     show_call(rt, b", bind", calls::bind(bench, ADD_RULE), bench);
     show_call(rt, b", release", calls::release(bench, 8), bench);
     show_call(rt, b", price", calls::price(bench), bench);

@@ -1,5 +1,5 @@
 // Jobs that open refuses, and some at the edge that it does not.
-use accounts::sound::BENCH_WORDS;
+use accounts::sound::BenchWords;
 use bench_calls::files::Made;
 use bench_calls::{calls, lines};
 use testing::say;
@@ -53,8 +53,8 @@ fn show(rt: &HostRuntime, name: &[u8], words: &[u32]) {
     let bench = opened.bench;
     say::text(rt, b"    ");
     lines::answer(rt, name, told);
-    lines::whether(rt, bench == [0u32; BENCH_WORDS], b", zeros", b"");
-    let of_printed = bench == Made::Printed(16, 0).words();
+    lines::whether(rt, bench == BenchWords::zeros(), b", zeros", b"");
+    let of_printed = bench == Made::Printed(16, &[]).words();
     lines::whether(rt, of_printed, b", the printed job's bench\n", b"\n");
 }
 

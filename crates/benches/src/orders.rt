@@ -1,8 +1,8 @@
 // The printed job bound in every order.
 use crate::runs::{Run, begun, with_bound};
-use accounts::sound::BENCH_WORDS;
+use accounts::sound::BenchWords;
 use bench_calls::calls;
-use bench_calls::files::{ALL, Made, RULES};
+use bench_calls::files::{Made, RULES};
 use reference::answer::Given;
 use testing::say;
 use testing::tally::more;
@@ -17,7 +17,7 @@ struct Orders {
 }
 
 // Whether a bench finishes with the printed mapping.
-pub fn writes_the_mapping(bench: [u32; BENCH_WORDS]) -> bool {
+pub fn writes_the_mapping(bench: BenchWords) -> bool {
     let finished = calls::finish(bench, 6);
     let told = finished.answer;
     (told == Ok(Given::Words(6))) & finished.printed
@@ -45,7 +45,7 @@ fn bound_in(code: u32) -> Run {
 fn with_order(all: Orders, code: u32) -> Orders {
     let run = bound_in(code);
     let bench = run.bench;
-    let full = Made::Printed(16, ALL).words();
+    let full = Made::Printed(16, &RULES).words();
     Orders {
         tried: more(all.tried, true),
         done: more(all.done, run.done == 4),
@@ -71,9 +71,8 @@ fn with_orders() -> Orders {
 
 pub fn report(rt: &HostRuntime) {
     let all = with_orders();
-    say::line(
-        rt,
-        b"the four rules in each order: # tried, all binds done in #, the same bench in #, the printed mapping in #\n",
-        &[all.tried, all.done, all.same, all.written],
+    let _ = println!(rt;
+        "the four rules in each order: {} tried, all binds done in {}, the same bench in {}, the printed mapping in {}",
+        all.tried, all.done, all.same, all.written
     );
 }

@@ -1,6 +1,6 @@
 // The printed job bound in the order of its sources, finished and checked, and released in another order; the stored count and the price
 // after each call.
-use accounts::sound::{BENCH_WORDS, GLUE};
+use accounts::sound::BenchWords;
 use bench_calls::calls::Told;
 use bench_calls::files::{ADD_RULE, AND_RULE, LT_RULE, RSUB_RULE};
 use bench_calls::steps::Step;
@@ -26,12 +26,12 @@ const RELEASES: [(Step, usize); 4] = [
 ];
 
 // The price of a bench and the count that it stores, which are to be the expected one.
-fn show_price(rt: &HostRuntime, bench: [u32; BENCH_WORDS], expected: usize) {
+fn show_price(rt: &HostRuntime, bench: BenchWords, expected: usize) {
     let told = calls::price(bench);
     let price = told.answer;
     lines::answer(rt, b"", price);
-    say::count(rt, b", stored ", bench[GLUE] as u64);
-    let same = (price == Ok(Given::Count(expected as u64))) & (bench[GLUE] as usize == expected);
+    let _ = print!(rt; ", stored {}", bench.glue);
+    let same = (price == Ok(Given::Count(expected as u64))) & (bench.glue as usize == expected);
     lines::whether(rt, same, b"\n", b" NOT AS EXPECTED\n");
 }
 
@@ -44,11 +44,7 @@ fn show_step(rt: &HostRuntime, told: Told, expected: usize) {
 }
 
 // Takes steps on a bench one after another, each with the count after it; the bench that comes back from the last.
-fn show_steps(
-    rt: &HostRuntime,
-    bench: [u32; BENCH_WORDS],
-    steps: &[(Step, usize)],
-) -> [u32; BENCH_WORDS] {
+fn show_steps(rt: &HostRuntime, bench: BenchWords, steps: &[(Step, usize)]) -> BenchWords {
     let mut bench = bench;
     for (step, expected) in steps {
         let told = step.taken_on(bench);
@@ -60,7 +56,7 @@ fn show_steps(
 }
 
 // Into eight words, of which six are written.
-fn show_finish(rt: &HostRuntime, bench: [u32; BENCH_WORDS]) {
+fn show_finish(rt: &HostRuntime, bench: BenchWords) {
     let finished = calls::finish(bench, 8);
     let written = finished.answer;
     lines::answer(rt, b"    finish", written);

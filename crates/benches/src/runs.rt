@@ -1,6 +1,6 @@
 // The printed job bound again, with calls that are refused before and after each bind.
 use crate::orders::writes_the_mapping;
-use accounts::sound::BENCH_WORDS;
+use accounts::sound::BenchWords;
 use bench_calls::calls::Told;
 use bench_calls::files::{RULES, WRONG_LT_RULE};
 use bench_calls::{calls, lines};
@@ -28,7 +28,7 @@ const UNBOUND: [usize; 4] = [1, 3, 8, 25];
 // as they were; and the binds that were done.
 #[derive(Clone, Copy)]
 pub struct Run {
-    pub bench: [u32; BENCH_WORDS],
+    pub bench: BenchWords,
     tried: u64,
     refused: u64,
     kept: u64,
@@ -115,10 +115,9 @@ fn with_steps() -> Run {
 // At the end a finish into words that are too few.
 pub fn report(rt: &HostRuntime) {
     let run = with_finish(with_steps(), 5, 23, 6);
-    say::line(
-        rt,
-        b"a run with refused calls: # tried, refused as expected #, bench and lent words kept #; binds done #",
-        &[run.tried, run.refused, run.kept, run.done],
+    let _ = print!(rt;
+        "a run with refused calls: {} tried, refused as expected {}, bench and lent words kept {}; binds done {}",
+        run.tried, run.refused, run.kept, run.done
     );
     let last = run.bench;
     lines::whether(

@@ -27,6 +27,7 @@ fn beats(best: Option<Best>, total: u32) -> bool
 }
 
 // One rule more for a function, beside bindings that use a set. A rule is judged last, and only if it would make less glue.
+#[tactic(auto, unfolding(crate::specs::Best::better, crate::specs::Best::serves, crate::specs::Best::usable))]
 pub fn consider(
     best: Option<Best>,
     word: u32,

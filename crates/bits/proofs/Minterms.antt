@@ -121,12 +121,13 @@ module _ (n a b : ℕ) (g : Operands n a b) where
   right_parts : b ≡ m0 n (bit a) (bit b) + m2 n (bit a) (bit b)
   right_parts = sym (word-bits n b g.right_fits) ∙ right_is n (bit a) (bit b)
 
-  pub union_fits : (m : ℕ) → m ≡ 2 ^ n - 1 → b - bit_and a b ≤ m - a
-  union_fits m e =
-      let x = both_is in let u = left_parts in let w = right_parts in let z = all_is n (bit a) (bit b) in omega arith
-
-  pub word_fits : 2 ^ n ≤ 2 ^ 64
-  word_fits = pow_mono {i = n} {j = 64} g.most
+  pub union_fits : (bit_and a b ≤ a) × (a + (b - bit_and a b) ≤ 2 ^ n - 1) × (2 ^ n ≤ 2 ^ 64)
+  union_fits =
+      let x = both_is in
+      let u = left_parts in
+      let w = right_parts in
+      let z = all_is n (bit a) (bit b) in
+      (omega arith, omega arith, pow_mono {i = n} {j = 64} g.most)
 
   module _ (v : ℕ) where
     by_minterms : num (bit v 0) * bit_and a b + num (bit v 1) * (a - bit_and a b) + num (bit v 2) * (b - bit_and a b)

@@ -266,10 +266,18 @@ pub const BOOK: [u32; SIZE] = [
     0x5DEE_B001,
 ];
 
-// A rule of the book by its index.
-pub fn entry(index: usize) -> u32
-    requires { index < length book }
-    ensures { result ≡ get_or book index 0 }
-{
-    BOOK[index]
+// A rule of the book, by its index.
+#[derive(Clone, Copy)]
+pub struct Rule {
+    pub index: usize,
+    pub ghost within: { index < length book },
+}
+
+impl Rule {
+    #[tactic(auto, unfolding(crate::specs::Book::book))]
+    pub fn word(self) -> u32
+        ensures { result ≡ get_or book self.index 0 }
+    {
+        BOOK[self.index]
+    }
 }

@@ -1,11 +1,11 @@
 // The lines of the book: each rule as a binding is printed, and the record of the report's appendix that it comes from.
 #![tactic(auto)]
 
-ghost use Rattle.std.specs.Prelude.{◌≡◌, ◌+◌, ◌++◌, ◌≤◌, ◌<◌, length};
-ghost use Rattle.book.specs.Book.{book};
+ghost use Rattle.std.specs.Prelude.{◌≡◌, ◌+◌, ◌++◌, ◌≤◌, length};
 ghost use Rattle.text.specs.Text.{room};
 ghost use Rattle.book_lines.specs.BookLines as B;
 
+use book::Rule;
 use text::Text;
 
 // The names of the records in the book's order. A companion comes from none and has a -.
@@ -34,24 +34,24 @@ const RECORDS: [&str; 256] = [
 ];
 
 // Puts the name of the record that a rule comes from.
-#[tactic(auto, unfolding(crate::specs::BookLines::records, crate::specs::BookLines::record_of))]
-fn put_record(index: usize, line: &mut Text)
-    requires { (index < length book) × (length line.old + B.most_record_bytes ≤ room) }
+#[tactic(auto, unfolding(crate::specs::BookLines::records, crate::specs::BookLines::record_of, book::specs::Book::book))]
+fn put_record(rule: Rule, line: &mut Text)
+    requires { length line.old + B.most_record_bytes ≤ room }
     ensures short { length line.new ≤ length line.old + B.most_record_bytes }
-    ensures text { line.new ≡ line.old ++ B.record_of index }
+    ensures text { line.new ≡ line.old ++ B.record_of rule.index }
 {
-    line.put_entry(&RECORDS, index);
+    line.put_entry(&RECORDS, rule.index);
 }
 
-// Puts the line of a rule, by its index in the book.
+// Puts the line of a rule.
 #[tactic(auto, unfolding(crate::specs::BookLines::rule_line))]
-pub fn put_rule(index: usize, line: &mut Text)
-    requires { (index < length book) × (length line.old + B.most_rule_bytes ≤ room) }
+pub fn put_rule(rule: Rule, line: &mut Text)
+    requires { length line.old + B.most_rule_bytes ≤ room }
     ensures short { length line.new ≤ length line.old + B.most_rule_bytes }
-    ensures text { line.new ≡ line.old ++ B.rule_line index }
+    ensures text { line.new ≡ line.old ++ B.rule_line rule.index }
 {
-    listing::put_binding(book::entry(index), line);
+    listing::put_binding(rule.word(), line);
     line.put(b" ");
-    put_record(index, line);
+    put_record(rule, line);
     line.put(b"\n");
 }

@@ -1,6 +1,6 @@
 -- What check_mapping says of what it read: "a last word cut short is 2 at its index", the job's before all else, the mapping's before the
 -- mapping's other refusals; "the checker's 1 to 6 also say which of the two is meant". A file that could not be read has no answer.
-use Rattle.std.specs.Prelude.{ℕ, ◌≡◌, true, false, List, ◌++◌, if◌then◌else◌, Result, Ok, Err, ⊤}
+use Rattle.std.specs.Prelude.{ℕ, ◌≡◌, true, false, Option, Some, None, List, ◌++◌, Result, Ok, Err, ⊤}
 use Rattle.words.specs.Paper.{refusal}
 use Rattle.text.specs.Text.{bytes}
 use Rattle.lines.specs.Lines.{refused_line, refused_file_line, wrong_line}
@@ -11,6 +11,7 @@ use Rattle.reader.specs.declared.Job.{Job}
 use Rattle.words.specs.declared.Refusal.{Refusal}
 use Rattle.console.specs.declared.Failed.{Failed}
 use Rattle.input.specs.declared.Input.{Input}
+use Rattle.input.specs.Read.{cut_at}
 use Rattle.checker.specs.Check.{CheckRuled, ruling_of}
 use Rattle.checker.specs.declared.CheckError.TheVariants.{JobRefused, MappingRefused, Refused, Wrong}
 use Rattle.words.specs.declared.Fault.TheVariants.{OutOfSequence}
@@ -26,18 +27,20 @@ abbrev pub checked_text : Result ⊤ CheckError → List ℕ
 checked_text (Ok tt) = bytes "ACCEPTED\n"
 checked_text (Err e) = refused_text e
 
--- ---- the answer to two files: the words that were kept of each, and what was read
+-- ---- the answer to two files, by where a last word of each is cut short
 
 -- a mapping cut short at word `end`, with a job that was read
 abbrev pub cut_mapping : ℕ → Result Job Refusal → Result ⊤ CheckError
 cut_mapping end (Ok job) = Err (MappingRefused (refusal OutOfSequence end))
 cut_mapping end (Err r) = Err (JobRefused r)
 
-unfoldable pub files_ruling : List ℕ → Input → List ℕ → Input → Ruling (Result ⊤ CheckError)
-files_ruling job first mapping second =
-    if first.cut then Gives (Err (JobRefused (refusal OutOfSequence first.whole)))
-    else if second.cut then Gives (cut_mapping second.whole (job_of job))
-    else ruling_of job mapping
+abbrev pub ruling_at : Option ℕ → Option ℕ → List ℕ → List ℕ → Ruling (Result ⊤ CheckError)
+ruling_at (Some place) cut job mapping = Gives (Err (JobRefused (refusal OutOfSequence place)))
+ruling_at None (Some place) job mapping = Gives (cut_mapping place (job_of job))
+ruling_at None None job mapping = ruling_of job mapping
+
+unfoldable pub files_ruling : Input → Input → Ruling (Result ⊤ CheckError)
+files_ruling job mapping = ruling_at (cut_at job) (cut_at mapping) job.words mapping.words
 
 -- the text of the answer to two files stands behind what stood before
 pub record SaysRuled (ruling : Ruling (Result ⊤ CheckError)) (old new : List ℕ) : Type 0 where
@@ -46,7 +49,7 @@ pub record SaysRuled (ruling : Ruling (Result ⊤ CheckError)) (old new : List �
   pub text : new ≡ old ++ checked_text answer
 
 -- by whether the job's file was read, and the mapping's: of a file that failed nothing is put
-abbrev pub SaysChecked : List ℕ → Result Input Failed → List ℕ → Result Input Failed → List ℕ → List ℕ → Type 0
-SaysChecked job (Err e) mapping other old new = new ≡ old
-SaysChecked job (Ok first) mapping (Err e) old new = new ≡ old
-SaysChecked job (Ok first) mapping (Ok second) old new = SaysRuled (files_ruling job first mapping second) old new
+abbrev pub SaysChecked : Result Input Failed → Result Input Failed → List ℕ → List ℕ → Type 0
+SaysChecked (Err e) mapping old new = new ≡ old
+SaysChecked (Ok job) (Err e) old new = new ≡ old
+SaysChecked (Ok job) (Ok mapping) old new = SaysRuled (files_ruling job mapping) old new

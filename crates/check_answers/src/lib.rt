@@ -27,26 +27,28 @@ fn cut_mapping(job: &[u32], end: usize) -> Result<(), CheckError>
     }
 }
 
-// The answer to two files: the words that were kept of each, and what was read.
-fn check_files(job: &[u32], first: Input, mapping: &[u32], second: Input) -> Result<(), CheckError>
-    ensures { C.CheckRuled (S.files_ruling job.now first mapping.now second) result }
+// The answer to two files that were read.
+#[tactic(auto, unfolding(crate::specs::Answers::files_ruling))]
+fn check_files(job: &Input, mapping: &Input) -> Result<(), CheckError>
+    ensures { C.CheckRuled (S.files_ruling job.now mapping.now) result }
 {
-    if first.cut {
+    if let Some(place) = job.cut_at() {
         return Err(CheckError::JobRefused(Refusal {
             fault: Fault::OutOfSequence,
-            place: first.whole,
+            place,
         }));
     }
-    if second.cut {
-        return cut_mapping(job, second.whole);
+    if let Some(place) = mapping.cut_at() {
+        return cut_mapping(job.words(), place);
     }
-    checker::check(job, mapping)
+    checker::check(job.words(), mapping.words())
 }
 
 // The text of a refusal.
 fn put_refused(error: CheckError, text: &mut Text)
     requires { length text.old + L.most_line_bytes ≤ room }
-    ensures { text.new ≡ text.old ++ S.refused_text error }
+    ensures short { length text.new ≤ length text.old + L.most_line_bytes }
+    ensures text { text.new ≡ text.old ++ S.refused_text error }
 {
     match error {
         CheckError::JobRefused(refusal) => lines::refused_file_line(refusal, false, text),
@@ -59,7 +61,8 @@ fn put_refused(error: CheckError, text: &mut Text)
 // The text of the checker's answer.
 fn put_checked(checked: Result<(), CheckError>, text: &mut Text)
     requires { length text.old + L.most_line_bytes ≤ room }
-    ensures { text.new ≡ text.old ++ S.checked_text checked }
+    ensures short { length text.new ≤ length text.old + L.most_line_bytes }
+    ensures text { text.new ≡ text.old ++ S.checked_text checked }
 {
     match checked {
         Ok(()) => text.put(b"ACCEPTED\n"),
@@ -68,19 +71,14 @@ fn put_checked(checked: Result<(), CheckError>, text: &mut Text)
 }
 
 // What check_mapping says of its two files; nothing, if one of them could not be read.
-pub fn check_inputs(
-    job: &[u32],
-    first: Result<Input, Failed>,
-    mapping: &[u32],
-    second: Result<Input, Failed>,
-    text: &mut Text,
-)
+pub fn check_inputs(job: Result<Input, Failed>, mapping: Result<Input, Failed>, text: &mut Text)
     requires { length text.old + L.most_line_bytes ≤ room }
-    ensures { S.SaysChecked job.now first mapping.now second text.old text.new }
+    ensures short { length text.new ≤ length text.old + L.most_line_bytes }
+    ensures said { S.SaysChecked job mapping text.old text.new }
 {
-    let (Ok(first), Ok(second)) = (first, second) else {
+    let (Ok(job), Ok(mapping)) = (job, mapping) else {
         return;
     };
-    let checked = check_files(job, first, mapping, second);
+    let checked = check_files(&job, &mapping);
     put_checked(checked, text);
 }

@@ -2,25 +2,14 @@
 // written is said on standard error.
 #![tactic(auto)]
 
-use input::KEPT_WORDS;
 use text::Text;
 
 // Checks the mapping of the two files.
 fn check(rt: &HostRuntime) {
-    let mut job = [0u32; KEPT_WORDS];
-    let mut mapping = [0u32; KEPT_WORDS];
-    let first = input::read_file(rt, 1, &mut job);
-    let second = input::read_file(rt, 2, &mut mapping);
-    let job_kept = input::kept(first);
-    let mapping_kept = input::kept(second);
+    let job = input::read_file(rt, 1);
+    let mapping = input::read_file(rt, 2);
     let mut text = Text::new();
-    check_answers::check_inputs(
-        &job[..job_kept],
-        first,
-        &mapping[..mapping_kept],
-        second,
-        &mut text,
-    );
+    check_answers::check_inputs(job, mapping, &mut text);
     console::print(rt, text.as_bytes());
 }
 

@@ -9,11 +9,12 @@ ghost use Rattle.checker.specs.declared.CheckError.TheVariants.{Refused};
 
 use fitting::PairError;
 use reader::Mapping;
-use table::Terms;
+use table::{JobWords, Terms};
 use verdict::Verdict;
 use words::{Fault, Refusal, Witness};
 
 // A refusal of the checker: the first, 1 to 6, of the job or of the mapping; another, 7, 8, 9 or 11; or 10, with its values.
+// Kept: cases alike to those of `PairError`, so that a caller sees at once whose refusal it is.
 #[derive(Clone, Copy)]
 pub enum CheckError {
     JobRefused(Refusal),
@@ -43,6 +44,7 @@ impl From<PairError> for CheckError {
 }
 
 // Whether the glue word says what the glue of the bindings is. The tables of a job have no part in that.
+#[tactic(auto, unfolding(crate::specs::Check::account_of))]
 fn account(terms: &Terms, mapping: Mapping, bindings: &[u32]) -> Result<(), CheckError>
     ensures { result ≡ C.account_of (T.terms_held terms.now) mapping bindings.now }
 {
@@ -56,6 +58,7 @@ fn account(terms: &Terms, mapping: Mapping, bindings: &[u32]) -> Result<(), Chec
 }
 
 // A mapping that fits its job: is it complete, right and rightly priced?
+#[tactic(auto, using(crate::proofs::Rulings::no_wrong, crate::proofs::Rulings::still_wrong), unfolding(crate::specs::Check::fitting_of))]
 fn judge_fitting(terms: &Terms, mapping: Mapping, bindings: &[u32]) -> Result<(), CheckError>
     ensures { C.CheckRuled (C.fitting_of (T.terms_held terms.now) mapping bindings.now) result }
 {
@@ -73,6 +76,7 @@ fn judge_fitting(terms: &Terms, mapping: Mapping, bindings: &[u32]) -> Result<()
 }
 
 // A mapping that was read is judged against a job that was read.
+#[tactic(auto, unfolding(crate::specs::Check::judgement_of))]
 fn judge_mapping(terms: &Terms, mapping: Mapping, bindings: &[u32]) -> Result<(), CheckError>
     ensures { C.CheckRuled (C.judgement_of (T.terms_held terms.now) mapping bindings.now) result }
 {
@@ -81,11 +85,16 @@ fn judge_mapping(terms: &Terms, mapping: Mapping, bindings: &[u32]) -> Result<()
 }
 
 // The words of a job and of a mapping.
+#[tactic(auto, using(fitting::proofs::Pairs::job_read, fitting::proofs::Pairs::mapping_read), unfolding(crate::specs::Check::ruling_of))]
 pub fn check(job: &[u32], mapping: &[u32]) -> Result<(), CheckError>
     ensures { C.Checks job.now mapping.now result }
 {
     let (facts, bound) = fitting::read_pair(job, mapping)?;
-    let terms = table::terms_of(job, facts);
+    let read = JobWords {
+        words: job,
+        job: facts,
+    };
+    let terms = read.terms();
     let bindings = table::bindings_of(mapping, bound);
     judge_mapping(&terms, bound, bindings)
 }

@@ -1,4 +1,5 @@
-// The printed job and mapping, changed. Both stand in one array, the mapping after the job.
+// The printed job and mapping, changed.
+// Kept: both stand in one array, the mapping after the job, since bits are turned in the one and the other alike.
 use crate::compare::{Tallies, compared, none, report};
 use rulings::checking::count_for;
 use std::num::{wrapping_add_u32, wrapping_add_usize};

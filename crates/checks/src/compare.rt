@@ -2,7 +2,6 @@
 use checker::CheckError;
 use fitting::PairError;
 use reference::answer::{Refusal, Subject, refused, wrong};
-use reference::trial::Witness;
 use rulings::checking::{check, price, wrong_is_borne_out};
 use testing::say;
 use testing::tally::{Numbers, no_numbers, noted};
@@ -54,20 +53,26 @@ pub fn of_priced(answer: Result<u32, PairError>) -> Result<u32, Refusal> {
     }
 }
 
-fn say_difference(rt: &HostRuntime, what: &[u8], number: u32, job: &[u32], mapping: &[u32]) {
+fn say_difference(
+    rt: &HostRuntime,
+    what: &[u8],
+    number: Option<u32>,
+    job: &[u32],
+    mapping: &[u32],
+) {
     say::text(rt, what);
-    say::count(rt, b" differs, with ", number as u64);
+    let _ = print!(rt; " differs, with {}", number.unwrap_or(0));
     say::words(rt, b": job", job);
     say::words(rt, b", mapping", mapping);
     say::text(rt, b"\n");
 }
 
-// An answer more. The first difference of a tally is written out.
+// An answer more, by its number, 0 for no refusal. The first difference of a tally is written out.
 fn with(
     rt: &HostRuntime,
     what: &[u8],
     all: Numbers,
-    number: u32,
+    number: Option<u32>,
     same: bool,
     job: &[u32],
     mapping: &[u32],
@@ -79,25 +84,19 @@ fn with(
     noted(all, number, same)
 }
 
-// The number by which an answer is counted, 0 for no refusal.
-fn number_of(refusal: Option<Refusal>) -> u32 {
-    match refusal {
-        Some(refusal) => refusal.number,
-        None => 0,
-    }
-}
-
 fn with_check(rt: &HostRuntime, all: Numbers, job: &[u32], mapping: &[u32]) -> Numbers {
     let told = of_checked(checker::check(job, mapping), job, mapping);
     let is_shown_wrong = told.is_err_and(|refusal| (refusal.number == 10) & refusal.shown);
     let same = is_shown_wrong | (told == check(job, mapping));
-    with(rt, b"check", all, number_of(told.err()), same, job, mapping)
+    let number = told.err().map(|refusal| refusal.number);
+    with(rt, b"check", all, number, same, job, mapping)
 }
 
 fn with_price(rt: &HostRuntime, all: Numbers, job: &[u32], mapping: &[u32]) -> Numbers {
     let told = of_priced(pricer::price(job, mapping));
     let same = told == price(job, mapping);
-    with(rt, b"price", all, number_of(told.err()), same, job, mapping)
+    let number = told.err().map(|refusal| refusal.number);
+    with(rt, b"price", all, number, same, job, mapping)
 }
 
 // One job and mapping more.
@@ -114,15 +113,15 @@ pub fn compared(rt: &HostRuntime, all: Tallies, job: &[u32], mapping: &[u32]) ->
 fn say_refused(rt: &HostRuntime, by: [u64; 12]) {
     for (number, count) in by.iter().enumerate().skip(1) {
         if *count != 0 {
-            say::line(rt, b", refused #: #", &[number as u64, *count]);
+            let _ = print!(rt; ", refused {number}: {count}");
         }
     }
 }
 
-fn report_one(rt: &HostRuntime, form: &[u8], all: Numbers) {
+fn report_one(rt: &HostRuntime, name: &str, accepted: &str, all: Numbers) {
     let tally = all.tally;
     let by = all.by;
-    say::line(rt, form, &[tally.compared, tally.differ, by[0]]);
+    let _ = print!(rt; "{name}: {tally}; {accepted}: {}", by[0]);
     say_refused(rt, by);
 }
 
@@ -130,10 +129,9 @@ fn report_one(rt: &HostRuntime, form: &[u8], all: Numbers) {
 pub fn report(rt: &HostRuntime, name: &[u8], n: u32, all: Tallies) {
     let checks = all.checks;
     let prices = all.prices;
-    say::count(rt, b"width ", n as u64);
-    say::text(rt, b", ");
+    let _ = print!(rt; "width {n}, ");
     say::text(rt, name);
-    report_one(rt, b": # compared, # differ; accepted: #", checks);
-    report_one(rt, b"\n    price: # compared, # differ; counted: #", prices);
+    report_one(rt, "", "accepted", checks);
+    report_one(rt, "\n    price", "counted", prices);
     say::text(rt, b"\n");
 }

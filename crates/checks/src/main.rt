@@ -41,7 +41,7 @@ fn main(rt: HostRuntime) {
         Ok(count) => count as u64,
         Err(refusal) => refusal.place as u64,
     };
-    say::line(&rt, b"the printed mapping: price #\n", &[count]);
+    let _ = println!(rt; "the printed mapping: price {count}");
     report_changes(&rt);
     report_random(&rt);
 }

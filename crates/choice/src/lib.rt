@@ -12,6 +12,7 @@ use sequence::MOST_SOURCES;
 use table::Terms;
 
 // A rule for each source in table order, and what they use.
+// Kept: as many words as the job has sources, in an array, since no heap is a rule of the project.
 #[derive(Clone, Copy)]
 pub struct Chosen {
     pub words: [u32; MOST_SOURCES],
@@ -31,6 +32,7 @@ fn rule_at(rules: &[u32], book: &[u32], index: usize) -> u32
 
 // "Sources are taken in order; each gets the usable rule that makes the glue of the bindings so far least, the earlier rule on equal
 // glue." The loop over the sources is left from inside when a function proves unmappable, which is the error.
+#[tactic(auto, using(crate::proofs::Choosing::next_rule, crate::proofs::Choosing::no_rule_left, crate::proofs::Choosing::none_used, crate::proofs::Choosing::source_bound, crate::proofs::Choosing::source_unmappable, crate::proofs::Choosing::all_sources))]
 pub fn choose(terms: &Terms, rules: &[u32], book: &[u32]) -> Result<Chosen, u32>
     requires { (length terms.now.sources.now ≤ most_sources) × K.FewRules rules.now book.now }
     ensures { K.KeptChoice result (length terms.now.sources.now)

@@ -8,9 +8,10 @@ use native.Mathlib.Omega.{arith}
 use borrow.Author.Tests.{ne_eqb, le-leb, lt-ltb, le-ltb, ltb-true, ltb-false}
 use lib.Dec.{eqb, leb, ltb}
 use lib.ListN.{length, take, drop, set, length-set}
-use lib.Seq.{take_all, take-nil, take-suc, take-set-le, take-append-le, length-take-le, get_or-set_same}
+use lib.Seq.{take_all, take-suc, take-set-le, take-append-le, length-take-le, get_or-set_same}
 use Rattle.std.specs.Prelude.{Option, None, Some, ◌&&◌}
 use Rattle.std.proofs.Common.{nat_eq}
+use Rattle.std.proofs.lemmas.List.{take-take, drop-take}
 use Rattle.std.specs.Option.{option_map, option_and_then}
 use Rattle.std.specs.Str.{bytes_eq}
 use Rattle.words.proofs.Choices.{either}
@@ -62,17 +63,6 @@ digits_start (suc k) h (b ∷ text) l =
     either (λ (o : Option Hex). behind (take k text) o ≡ behind text o) (leb 8 h.digits) {x = None} {y = option_map (one_more h) (digit_of b)}
     (λ _. refl) (λ _. digit_start k text (one_more h) (digit_of b) (λ d. digits_start k (one_more h d) text (omega arith)))
 
-start_of_start : (j k : ℕ) (line : List ℕ) → j ≤ k → take j (take k line) ≡ take j line
-start_of_start zero k line h = refl
-start_of_start (suc j) zero line h = absurd (omega arith)
-start_of_start (suc j) (suc k) [] h = refl
-start_of_start (suc j) (suc k) (b ∷ line) h = ap (λ (r : List ℕ). b ∷ r) (start_of_start j k line (omega arith))
-
-past_start : (j k : ℕ) (line : List ℕ) → drop j (take (j + k) line) ≡ take k (drop j line)
-past_start zero k line = let e : 0 + k ≡ k = omega arith in rw e refl
-past_start (suc j) k [] = ap (drop (suc j)) (take-nil (suc j + k)) ∙ sym (take-nil k)
-past_start (suc j) k (b ∷ line) = let e : suc j + k ≡ suc (j + k) = omega arith in rw e (past_start j k line)
-
 -- more than ten digits are no function
 function_start : (k : ℕ) (digits : List ℕ) → 10 < k → release_command (take k digits) ≡ release_command digits
 unfolding release_command
@@ -93,11 +83,11 @@ start_with : (line : List ℕ) → command_with (take line_bytes line) ≡ comma
 unfolding command_with
 start_with line =
     rw (
-      start_of_start 5 line_bytes line (omega arith),
-      past_start 5 27 line,
+      take-take 5 line_bytes line (omega arith),
+      drop-take 5 27 line,
       digits_start 27 (between false) (drop 5 line) (omega arith),
-      start_of_start 8 line_bytes line (omega arith),
-      past_start 8 24 line,
+      take-take 8 line_bytes line (omega arith),
+      drop-take 8 24 line,
       function_start 24 (drop 8 line) (omega arith),
     ) refl
 

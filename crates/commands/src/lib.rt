@@ -20,6 +20,7 @@ pub enum Command {
 const LINE_BYTES: usize = 32;
 
 // The first bytes of a line so far, and how many they are.
+// Kept: no heap, a rule of the project.
 #[derive(Clone, Copy)]
 pub struct Line {
     pub bytes: [u8; LINE_BYTES],

@@ -5,6 +5,7 @@ ghost use Rattle.std.specs.Prelude.{◌≡◌};
 ghost use Rattle.completeness.specs.Complete as C;
 
 // Whether a binding has the function as its source.
+#[tactic(auto, unfolding(crate::specs::Complete::binds))]
 fn binds(bindings: &[u32], function: u32) -> bool
     ensures { result ≡ C.binds bindings.now function }
 {

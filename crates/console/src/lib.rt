@@ -41,6 +41,7 @@ pub fn complain(rt: &HostRuntime, program: &[u8], at: usize) {
 }
 
 // The bytes of standard input that were read and not yet taken: those from `at` on, up to `end`.
+// Kept: no heap, a rule of the project.
 #[derive(Clone, Copy)]
 pub struct Stdin {
     bytes: [u8; BUFFER],

@@ -8,7 +8,7 @@ use lib.Dec.{eqb}
 use lib.ListN.{length, get_or}
 use borrow.Author.Tests.{eq-eqb, eqb-true, not-false}
 use Rattle.words.specs.Field.{content_of}
-use Rattle.words.specs.Paper.{refusal, source_place, refused_with}
+use Rattle.words.specs.Paper.{port_number, refusal, source_place, refused_with}
 use Rattle.words.specs.declared.Witness.{Witness}
 use Rattle.words.proofs.Choices.{either, false_of}
 use Rattle.bits.specs.Bits.{num}
@@ -56,7 +56,7 @@ of_wrong c n h = false_of (is_right c n) (λ e. h (right_of c n e))
 
 abbrev WrongOf : Claim → ℕ → Result ⊤ CheckError → Witness → Type 0
 WrongOf c n r v =
-    (paper_of r ≡ refused_with 10 c.function (v.port ∷ v.left ∷ v.right ∷ num v.carry ∷ [])) × Differs c n v
+    (paper_of r ≡ refused_with 10 c.function (port_number v.port ∷ v.left ∷ v.right ∷ num v.carry ∷ [])) × Differs c n v
 
 wrong_answer : (c : Claim) (n : ℕ) (r : Result ⊤ CheckError) → CheckRuled (Names c n) r → (v : Witness) × WrongOf c n r v
 wrong_answer c n (Ok tt) h = absurd h
@@ -64,7 +64,7 @@ wrong_answer c n (Err (JobRefused x)) h = absurd h
 wrong_answer c n (Err (MappingRefused x)) h = absurd h
 wrong_answer c n (Err (Refused x)) h = absurd h
 wrong_answer c n (Err (Wrong v)) h =
-    (v, (ap (λ (x : ℕ). refused_with 10 x (v.port ∷ v.left ∷ v.right ∷ num v.carry ∷ [])) h.named, h))
+    (v, (ap (λ (x : ℕ). refused_with 10 x (port_number v.port ∷ v.left ∷ v.right ∷ num v.carry ∷ [])) h.named, h))
 
 -- ---- a job and a mapping that are well formed
 

@@ -4,7 +4,7 @@
 use Rattle.std.specs.Prelude.{ℕ, ◌+◌, ◌<◌, ◌≤◌, ◌≡◌, true, List, [], ◌∷◌, get_or, None, Result, Ok, ⊤}
 use Rattle.words.specs.Field.{kind_of, source_function}
 use Rattle.words.specs.Kinds.{is_recipe}
-use Rattle.words.specs.Paper.{source_place, refused, refused_with}
+use Rattle.words.specs.Paper.{port_number, source_place, refused, refused_with}
 use Rattle.words.specs.declared.Witness.{Witness}
 use Rattle.bits.specs.Bits.{num}
 use Rattle.alu.specs.Range.{is_width}
@@ -90,5 +90,5 @@ pub record NamesWrong (t : Terms) (mapping_words : List ℕ) (mapping : Mapping)
   pub values : Witness
   pub answer : paper_of r
       ≡ refused_with 10 (source_place (source_of (binding_at mapping_words at)))
-      (values.port ∷ values.left ∷ values.right ∷ num values.carry ∷ [])
+      (port_number values.port ∷ values.left ∷ values.right ∷ num values.carry ∷ [])
   pub differs : Differs (claim_at t mapping_words at) t.width values

@@ -13,6 +13,7 @@ ghost use Rattle.report.specs.Told as R;
 ghost use Rattle.deqhulov.specs.Tells as D;
 
 // Evaluates a function at a width, two operands and a carry. The values are the four ports.
+#[tactic(auto, using(report::proofs::Telling::told_of, report::proofs::Telling::report_fits))]
 pub fn deqhulov_evaluate(
     function: u32,
     width: u32,
@@ -30,6 +31,7 @@ pub fn deqhulov_evaluate(
 }
 
 // Prices a mapping under its job. The value is the glue count; that of a refusal 1 to 6 is 0 for the job and 1 for the mapping.
+#[tactic(auto, using(report::proofs::Telling::told_of, report::proofs::Telling::report_fits))]
 pub fn deqhulov_price(job: &[u32], mapping: &[u32], place: &mut u64, out: &mut [u64]) -> u32
     ensures { R.Told (P.paper_of (P.pricing_of job.now mapping.now)) result place.new out.old out.new }
 {
@@ -39,6 +41,7 @@ pub fn deqhulov_price(job: &[u32], mapping: &[u32], place: &mut u64, out: &mut [
 }
 
 // Maps a job into lent words. The value is the number of words written.
+#[tactic(auto, using(report::proofs::Telling::told_of, report::proofs::Telling::report_fits))]
 pub fn deqhulov_map(job: &[u32], lent: &mut [u32], place: &mut u64, out: &mut [u64]) -> u32
     ensures told { R.Told (M.paper_of (M.answer_of job.now lent.old)) result place.new out.old out.new }
     ensures written { lent.new ≡ M.lent_after_map job.now lent.old }
@@ -50,6 +53,7 @@ pub fn deqhulov_map(job: &[u32], lent: &mut [u32], place: &mut u64, out: &mut [u
 
 // Checks a mapping against its job. The value of a refusal 1 to 6 is 0 for the job and 1 for the mapping; those of 10 are the port,
 // the operands and the carry.
+#[tactic(auto, using(report::proofs::Telling::told_of, report::proofs::Telling::report_fits))]
 pub fn deqhulov_check(job: &[u32], mapping: &[u32], place: &mut u64, out: &mut [u64]) -> u32
     ensures { D.TellsCheck job.now mapping.now result place.new out.old out.new }
 {
@@ -59,6 +63,7 @@ pub fn deqhulov_check(job: &[u32], mapping: &[u32], place: &mut u64, out: &mut [
 }
 
 // Judges a recipe word at a width. The values of 10 are the port, the operands and the carry.
+#[tactic(auto, using(report::proofs::Telling::told_of, report::proofs::Telling::report_fits))]
 pub fn deqhulov_judge(word: u32, width: u32, place: &mut u64, out: &mut [u64]) -> u32
     ensures { D.TellsJudgement word width result place.new out.old out.new }
 {

@@ -1,14 +1,12 @@
 // A word of any kind that the layout allows.
 ghost use Rattle.std.specs.Prelude.{◌≡◌, ◌+◌, ◌≤◌, ◌++◌, length};
-ghost use Rattle.words.specs.Field.{kind_of};
-ghost use Rattle.words.specs.Kinds.{kind_number};
 ghost use Rattle.text.specs.Text as P;
 ghost use Rattle.describe.specs.Describe as D;
 ghost use Rattle.describe.specs.Room as M;
 
 use crate::recipes::put_recipe;
 use text::Text;
-use words::WordKind;
+use words::{Word, WordKind};
 
 #[tactic(auto, using(crate::proofs::Described::fields), unfolding(crate::specs::Describe::header_text))]
 fn put_header(word: u32, text: &mut Text)
@@ -45,19 +43,19 @@ fn put_function(label: &[u8], function: u32, text: &mut Text)
 
 // What a word is, by its kind.
 #[tactic(auto, unfolding(crate::specs::Describe::word_text))]
-pub fn put_kind(kind: WordKind, word: u32, text: &mut Text)
-    requires of_kind { kind_of word ≡ kind_number kind }
-    requires room { length text.old + M.most_kind ≤ P.room }
+pub fn put_kind(word: Word, text: &mut Text)
+    requires { length text.old + M.most_kind ≤ P.room }
     ensures short { length text.new ≤ length text.old + M.most_kind }
-    ensures text { text.new ≡ text.old ++ D.word_text word }
+    ensures text { text.new ≡ text.old ++ D.word_text word.bits }
 {
+    let Word { bits, kind } = word;
     match kind {
-        WordKind::Header => put_header(word, text),
-        WordKind::Prices => put_prices(word, text),
-        WordKind::Source => put_function(b"source ", words::source_function(word), text),
-        WordKind::Target => put_function(b"target ", words::target_function(word), text),
-        WordKind::Rule => put_recipe(b"rule ", word, text),
-        WordKind::Binding => put_recipe(b"binding ", word, text),
-        WordKind::Glue => text.put_labelled(b"glue count ", words::content_of(word) as u64),
+        WordKind::Header => put_header(bits, text),
+        WordKind::Prices => put_prices(bits, text),
+        WordKind::Source => put_function(b"source ", words::source_function(bits), text),
+        WordKind::Target => put_function(b"target ", words::target_function(bits), text),
+        WordKind::Rule => put_recipe(b"rule ", bits, text),
+        WordKind::Binding => put_recipe(b"binding ", bits, text),
+        WordKind::Glue => text.put_labelled(b"glue count ", words::content_of(bits) as u64),
     }
 }

@@ -12,7 +12,7 @@ ghost use Rattle.describe.specs.Room as M;
 
 use sequence::File;
 use text::Text;
-use words::Fault;
+use words::{Fault, Word};
 
 // What a word means, with its refusal if it has one all the same; or the refusal of a word that means nothing.
 #[tactic(auto, using(crate::proofs::Meaning::meanings))]
@@ -21,14 +21,14 @@ fn put_meaning(word: u32, text: &mut Text)
     ensures short { length text.new ≤ length text.old + M.most_meaning }
     ensures text { text.new ≡ text.old ++ D.meaning_text word }
 {
-    let Some(kind) = words::kind_of(word) else {
+    let Some(word) = Word::of(word) else {
         return fault::put_fault(b"", Some(Fault::OutOfSequence), text);
     };
-    if !grammar::fits(File::AsJob, word) {
+    if !grammar::fits(File::AsJob, word.bits) {
         return fault::put_fault(b"", Some(Fault::NotLaidOut), text);
     }
-    kind::put_kind(kind, word, text);
-    fault::put_fault(b", ", fault::output_fault(word), text);
+    kind::put_kind(word, text);
+    fault::put_fault(b", ", fault::output_fault(word.bits), text);
 }
 
 // A word's digits and its meaning.

@@ -14,6 +14,7 @@ pub fn entry_of(sources: &[u32], function: u32) -> Option<usize>
 }
 
 // The function of the first source with nothing bound.
+#[tactic(auto, using(crate::proofs::Searching::unbound_found, crate::proofs::Searching::unbound_passed, crate::proofs::Searching::none_unbound))]
 pub fn first_empty(sources: &[u32], bound: &[u32]) -> Option<u32>
     requires { length sources.now ≤ length bound.now }
     ensures { result ≡ E.first_empty sources.now bound.now }

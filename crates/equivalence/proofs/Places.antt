@@ -1,6 +1,6 @@
 -- The tables of what happens at one place: filled from their start, and read by state and pair of bits.
 use mathlib.Core.Path.{◌≡◌, ap, ◌∙◌}
-use Prim.Native.Nat.{ℕ, ◌+◌, ◌*◌, ◌/◌, ◌%◌, ◌<◌}
+use Prim.Native.Nat.{ℕ, ◌+◌, ◌*◌, ◌/◌, ◌%◌, ◌≤◌, ◌<◌}
 use native.Mathlib.Omega.{arith}
 use native.Mathlib.Decide.{dec_lt}
 use mathlib.Core.Bool.{Bool, true, false}
@@ -14,7 +14,7 @@ use Rattle.binding.specs.declared.Recipe.{Recipe}
 use Rattle.automaton.specs.Machine.{cell_of}
 use Rattle.automaton.specs.declared.Cell.{Cell}
 use Rattle.automaton.specs.declared.State.{State}
-use Rattle.equivalence.specs.Sets.{state_of, cell_at, no_cell, Cells, slot, Table}
+use Rattle.equivalence.specs.Sets.{state_of, cell_at, no_cell, Cells, move_by, top_by, slot, Table, Tabled}
 
 pub filled : {A : Type 0} (d : A) (F : ℕ → A) (l : List A) (i : ℕ) (e : A) → i < length l → e ≡ F i
     → ((k : ℕ) → k < i → get_or l k d ≡ F k) → (k : ℕ) → k < i + 1 → get_or (set l i e) k d ≡ F k
@@ -96,8 +96,11 @@ module _ (f : State → Bool → Bool → ℕ) (table : List ℕ) (known : (k : 
   tabled : Table f table
   tabled = record { at = slots }
 
-pub tabled_from : (f : Outputs → Cell → Cell → Bool → Bool → ℕ) (s : Side) (t : Recipe) (source target : List Cell) (table : List ℕ)
-    → Cells s source → Cells t.target target → ((k : ℕ) → k < 256 → get_or table k 0 ≡ from_cells f t.outputs source target k)
-    → Table (by_cells f s t) table
-tabled_from f s t source target table p q known =
-    tabled (by_cells f s t) table (λ k h. known k h ∙ from_cells_lem k f s t source target p q)
+pub tabled_from : (s : Side) (t : Recipe) (source target : List Cell) (moves tops : List ℕ) (m : ℕ) → 256 ≤ m → Cells s source → Cells t.target target
+    → ((k : ℕ) → k < m → get_or moves k 0 ≡ from_cells move_by t.outputs source target k)
+    → ((k : ℕ) → k < m → get_or tops k 0 ≡ from_cells top_by t.outputs source target k) → Tabled s t (record { moves = moves; tops = tops })
+tabled_from s t source target moves tops m h p q known-move known-top =
+    record {
+      moves = tabled (by_cells move_by s t) moves (λ k l. known-move k (omega arith) ∙ from_cells_lem k move_by s t source target p q);
+      tops = tabled (by_cells top_by s t) tops (λ k l. known-top k (omega arith) ∙ from_cells_lem k top_by s t source target p q);
+    }

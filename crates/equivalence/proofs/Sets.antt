@@ -4,13 +4,12 @@ use Prim.Native.Nat.{ℕ, zero, suc, ◌+◌, ◌-◌, ◌*◌, ◌/◌, ◌%◌
 use native.Mathlib.Nat.{lt_of_lt_of_le}
 use native.Mathlib.Numerals.{add-one}
 use native.Mathlib.Omega.{arith}
-use native.Mathlib.Decide.{dec_lt}
 use mathlib.Core.Bool.{Bool, true, false, ◌&&◌, ◌||◌, true≢false}
 use mathlib.Core.List.{List}
 use lib.Dec.{eqb}
-use lib.ListN.{get_or, length}
+use lib.ListN.{get_or}
 use lib.Pow.{pow_mono}
-use borrow.Author.Tests.{lt-leb, lt-ltb, le-ltb}
+use borrow.Author.Tests.{lt-leb}
 use Rattle.std.specs.Prelude.{if◌then◌else◌}
 use Rattle.bits.specs.Bits.{num, bit, word}
 use Rattle.bits.proofs.Words.{bit_word, word_lt}
@@ -18,7 +17,8 @@ use Rattle.binding.specs.declared.Side.{Side}
 use Rattle.binding.specs.declared.Recipe.{Recipe}
 use Rattle.automaton.specs.Machine.{next, alike, last, low_bit, agrees_from}
 use Rattle.automaton.specs.declared.State.{State}
-use Rattle.equivalence.specs.Sets.{index_of, state_of, move_of, top_of, slot, Table, fails, some_fails, round, failing, kept_at, Kept}
+use Rattle.equivalence.specs.Sets.{index_of, state_of, slot, Tabled, fails, some_fails, round, failing}
+use Rattle.equivalence.specs.declared.moves.Tables.{Tables}
 use Rattle.equivalence.proofs.States.{index_lt, state_index}
 
 -- ---- an entry
@@ -52,43 +52,25 @@ round_done table set w i e h = e ∙ ap (λ (k : ℕ). word k (some_fails table 
 
 -- ---- the rounds
 
-module _ (moves tops : List ℕ) where
-  pub failing-top : failing moves tops 0 ≡ round tops 0
+module _ (tables : Tables) where
+  pub failing-top : failing tables 0 ≡ round tables.tops 0
   unfolding failing
   failing-top = refl
 
-  pub failing-next : (j : ℕ) → failing moves tops (j + 1) ≡ round moves (failing moves tops j)
+  pub failing-next : (j : ℕ) → failing tables (j + 1) ≡ round tables.moves (failing tables j)
   unfolding failing
   failing-next j = rw add-one refl
 
   -- a set that repeats stays
-  stays : (j : ℕ) → round moves (failing moves tops j) ≡ failing moves tops j → (d : ℕ) → failing moves tops (d + j) ≡ failing moves tops j
+  stays : (j : ℕ) → round tables.moves (failing tables j) ≡ failing tables j → (d : ℕ) → failing tables (d + j) ≡ failing tables j
   unfolding failing
-  stays j e zero = let u : 0 + j ≡ j = omega arith in ap (failing moves tops) u
+  stays j e zero = let u : 0 + j ≡ j = omega arith in ap (failing tables) u
   stays j e (suc d) =
       let u : suc d + j ≡ suc (d + j) = omega arith in
-      ap (failing moves tops) u ∙ ap (round moves) (stays j e d) ∙ e
+      ap (failing tables) u ∙ ap (round tables.moves) (stays j e d) ∙ e
 
-  pub stable : (j m : ℕ) → j ≤ m → round moves (failing moves tops j) ≡ failing moves tops j → failing moves tops m ≡ failing moves tops j
-  stable j m h e = let u : m ≡ m - j + j = omega arith in ap (failing moves tops) u ∙ stays j e (m - j)
-
-  at_kept : (k last : ℕ) (sets : List ℕ) → ((j : ℕ) → j < last + 1 → get_or sets j 0 ≡ failing moves tops j)
-      → ((j : ℕ) → last ≤ j → j ≤ k → failing moves tops j ≡ failing moves tops last)
-      → (j : ℕ) → j ≤ k → get_or sets (kept_at last j) 0 ≡ failing moves tops j
-  at_kept k last sets below above j h =
-      elim (dec_lt j last) [
-        | yes l ↦ rw (lt-ltb j last l) (below j (omega arith))
-        | no l ↦ let g : last ≤ j = omega arith in rw (le-ltb j last g) (below last (omega arith) ∙ sym (above j g h))
-      ]
-
-  pub kept_stable : (k last : ℕ) (sets : List ℕ) (set lower : ℕ) → length sets ≡ 64 → last ≤ k → ((j : ℕ) → j < last + 1 → get_or sets j 0 ≡ failing moves tops j)
-      → set ≡ failing moves tops last → lower ≡ round moves set → lower ≡ set → Kept moves tops k last sets
-  kept_stable k last sets set lower n h below e u v =
-      record {
-        size = n;
-        most = h;
-        at = at_kept k last sets below (λ j g _. stable last j g (ap (round moves) (sym e) ∙ sym u ∙ v ∙ e));
-      }
+  pub stable : (j m : ℕ) → j ≤ m → round tables.moves (failing tables j) ≡ failing tables j → failing tables m ≡ failing tables j
+  stable j m h e = let u : m ≡ m - j + j = omega arith in ap (failing tables) u ∙ stays j e (m - j)
 
 -- ---- a state outside the set
 
@@ -115,19 +97,19 @@ unfolding fails
 passes set m true h e = (refl, rw (lt-leb 64 m h) at e)
 passes set m false h e = absurd (true≢false e)
 
-module _ (s : Side) (t : Recipe) (moves tops : List ℕ) (known : Table (move_of s t) moves) (known-top : Table (top_of s t) tops) where
-  pub agrees : (j i : ℕ) → i < 64 → bit (failing moves tops j) i ≡ false → (l r : ℕ) → agrees_from s t j (state_of i) l r ≡ true
+module _ (s : Side) (t : Recipe) (tables : Tables) (known : Tabled s t tables) where
+  pub agrees : (j i : ℕ) → i < 64 → bit (failing tables j) i ≡ false → (l r : ℕ) → agrees_from s t j (state_of i) l r ≡ true
   unfolding agrees_from failing
   agrees zero i h e l r =
       let x : Bool = low_bit l in
       let y : Bool = low_bit r in
-      let f = none_fails tops 0 i (sym (bit-round tops 0 i h) ∙ e) x y in
-      (passes 0 0 (last s t (state_of i) x y) (omega arith) (ap (fails 0) (sym (known-top.at i x y h)) ∙ f)).0
+      let f = none_fails tables.tops 0 i (sym (bit-round tables.tops 0 i h) ∙ e) x y in
+      (passes 0 0 (last s t (state_of i) x y) (omega arith) (ap (fails 0) (sym (known.tops.at i x y h)) ∙ f)).0
   agrees (suc j) i h e l r =
       let x : Bool = low_bit l in
       let y : Bool = low_bit r in
       let b : State = next s t (state_of i) x y in
-      let f = none_fails moves (failing moves tops j) i (sym (bit-round moves (failing moves tops j) i h) ∙ e) x y in
-      let p = passes (failing moves tops j) (index_of b) (alike s t (state_of i) x y) (index_lt b) (ap (fails (failing moves tops j)) (sym (known.at i x y h)) ∙ f) in
+      let f = none_fails tables.moves (failing tables j) i (sym (bit-round tables.moves (failing tables j) i h) ∙ e) x y in
+      let p = passes (failing tables j) (index_of b) (alike s t (state_of i) x y) (index_lt b) (ap (fails (failing tables j)) (sym (known.moves.at i x y h)) ∙ f) in
       ap₂ ◌&&◌ p.0
       (ap (λ (a : State). agrees_from s t j a (l / 2) (r / 2)) (sym (state_index b)) ∙ agrees j (index_of b) (index_lt b) p.1 (l / 2) (r / 2))

@@ -15,7 +15,9 @@ use Rattle.binding.specs.declared.Side.{Side}
 use Rattle.binding.specs.declared.Recipe.{Recipe}
 use Rattle.automaton.specs.Machine.{next, alike, last, low_bit, agrees_from}
 use Rattle.automaton.specs.declared.State.{State}
-use Rattle.equivalence.specs.Sets.{index_of, state_of, move_of, top_of, slot, Table, fails, some_fails, failing, kept_at, Failing, Refuted, Goes, Stepped}
+use Rattle.equivalence.specs.Sets.{index_of, state_of, move_of, top_of, slot, Table, Tabled, fails, some_fails, failing, kept_at, Failing, Refuted, Goes, Stepped}
+use Rattle.equivalence.specs.declared.moves.Tables.{Tables}
+use Rattle.equivalence.specs.declared.rounds.Rounds.{Rounds}
 use Rattle.equivalence.specs.declared.witness.Step.{Step}
 use Rattle.equivalence.proofs.States.{eqb_num, index_lt, state_index}
 use Rattle.equivalence.proofs.Sets.{by_set, bit-round, failing-top, failing-next}
@@ -103,65 +105,65 @@ module _ (s : Side) (t : Recipe) (i k : ℕ) (h : k < 4) (b : i < 64) where
         (low_bit_lem p.x (k / 2) l p.left) (low_bit_lem p.y (k % 2) r p.right)
         ∙ ap₂ (agrees_from s t j n) (low_rest p.x (k / 2) l p.left) (low_rest p.y (k % 2) r p.right) ∙ rest)
 
-module _ (moves tops sets : List ℕ) (kept i : ℕ) where
-  pub top_member : (j : ℕ) → Failing moves tops sets kept j i → j ≡ 0 → some_fails tops 0 i ≡ true
-  top_member j g e =
-      sym (bit-round tops 0 i g.state) ∙ ap (λ (w : ℕ). bit w i) (sym (failing-top moves tops))
-      ∙ ap (λ (z : ℕ). bit (failing moves tops z) i) (sym e) ∙ g.member
+module _ (tables : Tables) (i : ℕ) where
+  pub top_member : (j : ℕ) → i < 64 → j ≡ 0 → bit (failing tables j) i ≡ true → some_fails tables.tops 0 i ≡ true
+  top_member j b e f =
+      sym (bit-round tables.tops 0 i b) ∙ ap (λ (w : ℕ). bit w i) (sym (failing-top tables))
+      ∙ ap (λ (z : ℕ). bit (failing tables z) i) (sym e) ∙ f
 
-  pub low_member : (j at : ℕ) → Failing moves tops sets kept j i → (j ≡ 0 → ⊥) → at ≡ kept_at kept (j - 1) → some_fails moves (get_or sets at 0) i ≡ true
+  pub ends_at_top : (j k : ℕ) → i < 64 → j ≡ 0 → k < 4 → fails 0 (get_or tables.tops (4 * i + k) 0) ≡ true
+      → (s : Side) (t : Recipe) → Tabled s t tables → (l r : ℕ) → agrees_from s t j (state_of i) (k / 2 + 2 * l) (k % 2 + 2 * r) ≡ false
+  ends_at_top j k b e h f s t known l r = rw e (top-ends s t i k h b tables.tops known.tops f l r)
+
+  pub ends_below : (j k : ℕ) → i < 64 → (j ≡ 0 → ⊥) → k < 4 → 64 ≤ get_or tables.moves (4 * i + k) 0
+      → (s : Side) (t : Recipe) → Tabled s t tables → (l r : ℕ) → agrees_from s t j (state_of i) (k / 2 + 2 * l) (k % 2 + 2 * r) ≡ false
+  ends_below zero k b z h f s t known l r = absurd (z refl)
+  ends_below (suc j) k b z h f s t known l r = low_differs s t i k h b tables.moves known.moves j l r f
+
+module _ (tables : Tables) (rounds : Rounds) (i : ℕ) where
+  pub low_member : (j at : ℕ) → Failing tables rounds j i → (j ≡ 0 → ⊥) → at ≡ kept_at rounds.last (j - 1) → some_fails tables.moves (get_or rounds.sets at 0) i ≡ true
   low_member j at g z e =
       let h : 0 < j = pos_of_ne-zero z in
       let u : j - 1 + 1 ≡ j = omega arith in
-      let set : get_or sets at 0 ≡ failing moves tops (j - 1) = ap (λ (z : ℕ). get_or sets z 0) e ∙ g.below (j - 1) (omega arith) in
-      ap (λ (w : ℕ). some_fails moves w i) set ∙ sym (bit-round moves (failing moves tops (j - 1)) i g.state)
-      ∙ ap (λ (w : ℕ). bit w i) (sym (failing-next moves tops (j - 1))) ∙ ap (λ (z : ℕ). bit (failing moves tops z) i) u ∙ g.member
+      let set : get_or rounds.sets at 0 ≡ failing tables (j - 1) = ap (λ (z : ℕ). get_or rounds.sets z 0) e ∙ g.below (j - 1) (omega arith) in
+      ap (λ (w : ℕ). some_fails tables.moves w i) set ∙ sym (bit-round tables.moves (failing tables (j - 1)) i g.state)
+      ∙ ap (λ (w : ℕ). bit w i) (sym (failing-next tables (j - 1))) ∙ ap (λ (z : ℕ). bit (failing tables z) i) u ∙ g.member
 
-  pub ends_at_top : (j k : ℕ) → Failing moves tops sets kept j i → j ≡ 0 → k < 4 → fails 0 (get_or tops (4 * i + k) 0) ≡ true
-      → Stepped moves tops sets kept j i (record { pair = k; leads = None })
-  ends_at_top j k g e h f = (h, λ s t _ known l r. rw e (top-ends s t i k h g.state tops known f l r))
-
-  pub ends_below : (j k : ℕ) → Failing moves tops sets kept j i → (j ≡ 0 → ⊥) → k < 4 → 64 ≤ get_or moves (4 * i + k) 0 → Stepped moves tops sets kept j i (record { pair = k; leads = None })
-  ends_below zero k g z h f = absurd (z refl)
-  ends_below (suc j) k g z h f = (h, λ s t known _ l r. low_differs s t i k h g.state moves known j l r f)
-
-  next_failing : (j at m : ℕ) → Failing moves tops sets kept j i → 0 < j → at ≡ kept_at kept (j - 1) → fails (get_or sets at 0) m ≡ true → m < 64
-      → Failing moves tops sets kept (j - 1) m
+  next_failing : (j at m : ℕ) → Failing tables rounds j i → 0 < j → at ≡ kept_at rounds.last (j - 1) → fails (get_or rounds.sets at 0) m ≡ true → m < 64
+      → Failing tables rounds (j - 1) m
   unfolding bit
   next_failing j at m g h e f l =
-      let set : get_or sets at 0 ≡ failing moves tops (j - 1) = ap (λ (z : ℕ). get_or sets z 0) e ∙ g.below (j - 1) (omega arith) in
+      let set : get_or rounds.sets at 0 ≡ failing tables (j - 1) = ap (λ (z : ℕ). get_or rounds.sets z 0) e ∙ g.below (j - 1) (omega arith) in
       record {
-        sizes = g.sizes;
-        size = g.size;
         last_fits = g.last_fits;
         places = omega (arith, g.places);
         state = l;
         below = λ n p. g.below n (omega arith);
-        member = ap (λ (w : ℕ). bit w m) (sym set) ∙ by_set (get_or sets at 0) m l ∙ f;
+        member = ap (λ (w : ℕ). bit w m) (sym set) ∙ by_set (get_or rounds.sets at 0) m l ∙ f;
       }
 
-  pub leads_on : (j k at : ℕ) → Failing moves tops sets kept j i → (j ≡ 0 → ⊥) → at ≡ kept_at kept (j - 1) → k < 4
-      → fails (get_or sets at 0) (get_or moves (4 * i + k) 0) ≡ true → get_or moves (4 * i + k) 0 < 64
-      → Stepped moves tops sets kept j i (record { pair = k; leads = Some (get_or moves (4 * i + k) 0) })
+  pub leads_on : (j k at : ℕ) → Failing tables rounds j i → (j ≡ 0 → ⊥) → at ≡ kept_at rounds.last (j - 1) → k < 4
+      → fails (get_or rounds.sets at 0) (get_or tables.moves (4 * i + k) 0) ≡ true → get_or tables.moves (4 * i + k) 0 < 64
+      → Stepped tables rounds j i (record { pair = k; leads = Some (get_or tables.moves (4 * i + k) 0) })
   leads_on zero k at g z e h f l = absurd (z refl)
   leads_on (suc j) k at g z e h f m = (
     h,
     (
       pos_of_ne-zero z,
-      next_failing (suc j) at (get_or moves (4 * i + k) 0) g (pos_of_ne-zero z) e f m,
-      λ s t known l r q. low_leads s t i k h g.state moves known j l r m (rw suc-sub_one at q),
+      next_failing (suc j) at (get_or tables.moves (4 * i + k) 0) g (pos_of_ne-zero z) e f m,
+      λ s t known l r q. low_leads s t i k h g.state tables.moves known j l r m (rw suc-sub_one at q),
     ),
   )
 
   -- ---- the whole walk
 
-  pub ends_there : (j : ℕ) (r : Step) (left right : ℕ) → Stepped moves tops sets kept j i r → r.leads ≡ None
-      → left ≡ r.pair / 2 + 2 * 0 → right ≡ r.pair % 2 + 2 * 0 → Refuted moves tops j i left right
+  pub ends_there : (j : ℕ) (r : Step) (left right : ℕ) → Stepped tables rounds j i r → r.leads ≡ None
+      → left ≡ r.pair / 2 + 2 * 0 → right ≡ r.pair % 2 + 2 * 0 → Refuted tables j i left right
   ends_there j r left right z e u v =
       let h : r.pair < 4 = z.0 in
-      let f = subst (Goes moves tops sets kept j i r.pair) e z.1 in
+      let f = subst (Goes tables rounds j i r.pair) e z.1 in
       record {
         left_fits = omega (arith, pow-suc 2 j, pow_pos j);
         right_fits = omega (arith, pow-suc 2 j, pow_pos j);
-        fails = λ s t known top. rw (u, v) (f s t known top 0 0);
+        fails = λ s t known. rw (u, v) (f s t known 0 0);
       }

@@ -1,7 +1,7 @@
 -- What the search for operands at which a recipe fails goes by: tables of what happens at one place, sets of failing states from the top
 -- place down, and a walk from the lowest place up.
 -- Nothing here has to be believed: the proofs show that what is found is what Verdicts.antt of the crate verdict says.
-use Rattle.std.specs.Prelude.{ℕ, zero, suc, ◌+◌, ◌-◌, ◌*◌, ◌/◌, ◌%◌, ◌^◌, ◌≤◌, ◌<◌, Bool, true, false, ◌||◌, eqb, ltb, leb, get_or, length, ◌≡◌, List, Option, Some, None, if◌then◌else◌}
+use Rattle.std.specs.Prelude.{ℕ, zero, suc, ◌+◌, ◌-◌, ◌*◌, ◌/◌, ◌%◌, ◌^◌, ◌≤◌, ◌<◌, Bool, true, false, ◌||◌, eqb, ltb, leb, get_or, ◌≡◌, List, Option, Some, None, if◌then◌else◌}
 use Rattle.bits.specs.Bits.{num, bit, word}
 use Rattle.binding.specs.declared.Side.{Side}
 use Rattle.output.specs.declared.Outputs.{Outputs}
@@ -11,6 +11,7 @@ use Rattle.automaton.specs.Machine.{cell_of, next_by, alike_by, last_by, agrees_
 use Rattle.automaton.specs.declared.Cell.{Cell}
 use Rattle.automaton.specs.declared.State.{State}
 use Rattle.equivalence.specs.declared.moves.Tables.{Tables}
+use Rattle.equivalence.specs.declared.rounds.Rounds.{Rounds}
 use Rattle.equivalence.specs.declared.witness.Step.{Step}
 
 -- a state's number, below 64, and back
@@ -64,13 +65,8 @@ slot i true true = 4 * i + 3
 pub record Table (f : State → Bool → Bool → ℕ) (table : List ℕ) : Type 0 where
   pub at : (i : ℕ) (x y : Bool) → i < 64 → get_or table (slot i x y) 0 ≡ f (state_of i) x y
 
-pub record TableSizes (moves tops : List ℕ) : Type 0 where
-  pub moves_size : length moves ≡ 256
-  pub tops_size : length tops ≡ 256
-
 -- the tables of a source side and a recipe
 pub record Tabled (s : Side) (t : Recipe) (r : Tables) : Type 0 where
-  pub sizes : TableSizes r.moves r.tops
   pub moves : Table (move_of s t) r.moves
   pub tops : Table (top_of s t) r.tops
 
@@ -90,47 +86,43 @@ unfoldable pub round : List ℕ → ℕ → ℕ
 round table set = word 64 (some_fails table set)
 
 -- the states that fail with j + 1 places to go
-unfoldable pub failing : List ℕ → List ℕ → ℕ → ℕ
-failing moves tops zero = round tops 0
-failing moves tops (suc j) = round moves (failing moves tops j)
+unfoldable pub failing : Tables → ℕ → ℕ
+failing tables zero = round tables.tops 0
+failing tables (suc j) = round tables.moves (failing tables j)
 
 -- past the last set that is kept all are the same
 abbrev pub kept_at : ℕ → ℕ → ℕ
 kept_at last j = if ltb j last then j else last
 
 -- the sets with up to k + 1 places to go. How many are kept is the program's choice
-pub record Kept (moves tops : List ℕ) (k last : ℕ) (sets : List ℕ) : Type 0 where
-  pub size : length sets ≡ 64
-  pub most : last ≤ k
-  pub at : (j : ℕ) → j ≤ k → get_or sets (kept_at last j) 0 ≡ failing moves tops j
+pub record Kept (tables : Tables) (k : ℕ) (rounds : Rounds) : Type 0 where
+  pub most : rounds.last ≤ k
+  pub at : (j : ℕ) → j ≤ k → get_or rounds.sets (kept_at rounds.last j) 0 ≡ failing tables j
 
 -- ---- operands at which the recipe fails
 
 -- the state i fails with j + 1 places to go, and the sets below are kept
-pub record Failing (moves tops sets : List ℕ) (last j i : ℕ) : Type 0 where
-  pub sizes : TableSizes moves tops
-  pub size : length sets ≡ 64
-  pub last_fits : last < 64
+pub record Failing (tables : Tables) (rounds : Rounds) (j i : ℕ) : Type 0 where
+  pub last_fits : rounds.last < 64
   pub places : j < 64
   pub state : i < 64
-  pub below : (m : ℕ) → m < j → get_or sets (kept_at last m) 0 ≡ failing moves tops m
-  pub member : bit (failing moves tops j) i ≡ true
+  pub below : (m : ℕ) → m < j → get_or rounds.sets (kept_at rounds.last m) 0 ≡ failing tables m
+  pub member : bit (failing tables j) i ≡ true
 
 -- of whatever side and recipe the tables are, the recipe fails there
-pub record Refuted (moves tops : List ℕ) (j i left right : ℕ) : Type 0 where
+pub record Refuted (tables : Tables) (j i left right : ℕ) : Type 0 where
   pub left_fits : left < 2 ^ suc j
   pub right_fits : right < 2 ^ suc j
-  pub fails : (s : Side) (t : Recipe) → Table (move_of s t) moves → Table (top_of s t) tops → agrees_from s t j (state_of i) left right ≡ false
+  pub fails : (s : Side) (t : Recipe) → Tabled s t tables → agrees_from s t j (state_of i) left right ≡ false
 
 -- of whatever side and recipe the tables are, operands that begin with the pair k fail, or do so if those above them fail from the state m
-abbrev pub Goes : List ℕ → List ℕ → List ℕ → ℕ → ℕ → ℕ → ℕ → Option ℕ → Type 0
-Goes moves tops sets last j i k None =
-    (s : Side) (t : Recipe) → Table (move_of s t) moves → Table (top_of s t) tops
-    → (l r : ℕ) → agrees_from s t j (state_of i) (k / 2 + 2 * l) (k % 2 + 2 * r) ≡ false
-Goes moves tops sets last j i k (Some m) =
-    (0 < j) × Failing moves tops sets last (j - 1) m
-    × ((s : Side) (t : Recipe) → Table (move_of s t) moves
+abbrev pub Goes : Tables → Rounds → ℕ → ℕ → ℕ → Option ℕ → Type 0
+Goes tables rounds j i k None =
+    (s : Side) (t : Recipe) → Tabled s t tables → (l r : ℕ) → agrees_from s t j (state_of i) (k / 2 + 2 * l) (k % 2 + 2 * r) ≡ false
+Goes tables rounds j i k (Some m) =
+    (0 < j) × Failing tables rounds (j - 1) m
+    × ((s : Side) (t : Recipe) → Table (move_of s t) tables.moves
     → (l r : ℕ) → agrees_from s t (j - 1) (state_of m) l r ≡ false → agrees_from s t j (state_of i) (k / 2 + 2 * l) (k % 2 + 2 * r) ≡ false)
 
-abbrev pub Stepped : List ℕ → List ℕ → List ℕ → ℕ → ℕ → ℕ → Step → Type 0
-Stepped moves tops sets last j i r = (r.pair < 4) × Goes moves tops sets last j i r.pair r.leads
+abbrev pub Stepped : Tables → Rounds → ℕ → ℕ → Step → Type 0
+Stepped tables rounds j i r = (r.pair < 4) × Goes tables rounds j i r.pair r.leads

@@ -26,8 +26,9 @@ pub fn fails(table: &[u8], at: usize, set: u64) -> bool
 }
 
 // Whether a state fails by some pair of bits.
-fn some_fails(table: &[u8], set: u64, i: usize) -> bool
-    requires { (length table.now ≡ 256) × (i < 64) }
+// Kept: `i < 64` is asked of a state's number, which is a loop's index here and a byte of a table elsewhere. A type would be packed at each.
+fn some_fails(table: &[u8; 256], set: u64, i: usize) -> bool
+    requires { i < 64 }
     ensures { result ≡ S.some_fails table.now set i }
 {
     let at = 4 * i;
@@ -44,8 +45,7 @@ fn placed(b: bool, i: usize) -> u64
 
 // The states that fail by some pair of bits.
 #[tactic(auto, using(crate::proofs::Sets::round_start, crate::proofs::Sets::round_next, crate::proofs::Sets::round_fits, crate::proofs::Sets::round_done))]
-fn round(table: &[u8], set: u64) -> u64
-    requires { length table.now ≡ 256 }
+fn round(table: &[u8; 256], set: u64) -> u64
     ensures { result ≡ S.round table.now set }
 {
     let mut failing: u64 = 0;
@@ -56,10 +56,10 @@ fn round(table: &[u8], set: u64) -> u64
 }
 
 // A set follows from the one before it alone, so one that repeats stays.
-#[tactic(auto, using(crate::proofs::Places::filled), unfolding(crate::specs::Sets::failing))]
+#[tactic(auto, using(crate::proofs::Places::filled, crate::proofs::Sets::stable), unfolding(crate::specs::Sets::failing))]
 pub fn failing_sets(tables: &Tables, k: usize) -> Rounds
-    requires { S.TableSizes tables.now.moves tables.now.tops × (k < 64) }
-    ensures { S.Kept tables.now.moves tables.now.tops k result.last result.sets }
+    requires { k < 64 }
+    ensures { S.Kept tables.now k result }
 {
     let mut sets = [0u64; 64];
     let mut set = round(&tables.tops, 0);

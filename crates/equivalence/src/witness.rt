@@ -1,5 +1,5 @@
 // Operands at which a recipe fails, by a walk from the lowest place up.
-ghost use Rattle.std.specs.Prelude.{◌≡◌, true, ◌+◌, ◌*◌, ◌/◌, ◌%◌, ◌^◌, ◌<◌, length, get_or};
+ghost use Rattle.std.specs.Prelude.{◌≡◌, true, ◌+◌, ◌*◌, ◌/◌, ◌%◌, ◌^◌, ◌<◌, get_or};
 ghost use Rattle.equivalence.specs.Sets as S;
 
 use crate::moves::Tables;
@@ -19,8 +19,8 @@ pub struct Step {
 }
 
 // Of the four pairs of bits the first that fails.
-fn failing_pair(table: &[u8], set: u64, i: usize) -> usize
-    requires { (length table.now ≡ 256) × (i < 64) × (S.some_fails table.now set i ≡ true) }
+fn failing_pair(table: &[u8; 256], set: u64, i: usize) -> usize
+    requires { (i < 64) × (S.some_fails table.now set i ≡ true) }
     ensures { (result < 4) × (S.fails set (get_or table.now (4 * i + result) 0) ≡ true) }
 {
     let at = 4 * i;
@@ -56,10 +56,10 @@ fn above(k: usize, rest: Operands) -> Operands
 
 // One place of the walk, with j + 1 places to go: the pair of bits there, and the state to which it leads. Where O0 differs at it, or the
 // place is the top one, the walk ends.
-#[tactic(auto, using(crate::proofs::Walks::low_member, crate::proofs::Walks::leads_on))]
+#[tactic(auto, using(crate::proofs::Walks::top_member, crate::proofs::Walks::low_member, crate::proofs::Walks::ends_at_top, crate::proofs::Walks::ends_below, crate::proofs::Walks::leads_on))]
 fn step_from(tables: &Tables, rounds: &Rounds, j: usize, i: usize) -> Step
-    requires { S.Failing tables.now.moves tables.now.tops rounds.now.sets rounds.now.last j i }
-    ensures { S.Stepped tables.now.moves tables.now.tops rounds.now.sets rounds.now.last j i result }
+    requires { S.Failing tables.now rounds.now j i }
+    ensures { S.Stepped tables.now rounds.now j i result }
 {
     if j == 0 {
         return Step {
@@ -81,8 +81,8 @@ fn step_from(tables: &Tables, rounds: &Rounds, j: usize, i: usize) -> Step
 
 // From the state i with j + 1 places to go. The operands are 0 above the place at which the walk ends.
 pub fn walk(tables: &Tables, rounds: &Rounds, j: usize, i: usize) -> Operands
-    requires { S.Failing tables.now.moves tables.now.tops rounds.now.sets rounds.now.last j i }
-    ensures { S.Refuted tables.now.moves tables.now.tops j i result.left result.right }
+    requires { S.Failing tables.now rounds.now j i }
+    ensures { S.Refuted tables.now j i result.left result.right }
 {
     let step = step_from(tables, rounds, j, i);
     let pair = step.pair;

@@ -60,21 +60,15 @@ fn numbers_of(told: Told) -> [u64; 6] {
 }
 
 fn say_told(rt: &HostRuntime, told: Told) {
-    say::line(rt, b"# at # O0 # OCOUT # OVF # O1 #", &numbers_of(told));
+    let [number, place, o0, ocout, ovf, o1] = numbers_of(told);
+    let _ = print!(rt; "{number} at {place} O0 {o0} OCOUT {ocout} OVF {ovf} O1 {o1}");
 }
 
 fn say_difference(rt: &HostRuntime, given: Given) {
     let at = given.operands;
-    say::line(
-        rt,
-        b"differs: function # width # left # right # carry #; alu: refused ",
-        &[
-            given.function as u64,
-            given.width as u64,
-            at.left,
-            at.right,
-            at.carry as u64,
-        ],
+    let _ = print!(rt;
+        "differs: function {} width {} left {} right {} carry {}; alu: refused ",
+        given.function, given.width, at.left, at.right, at.carry
     );
     say_told(rt, of_alu(given));
     say::text(rt, b"; reference: refused ");

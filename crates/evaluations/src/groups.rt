@@ -3,6 +3,7 @@ use crate::beside::{Given, agree, count, of_reference};
 use reference::evaluator::Operands;
 use reference::trial::{next, sampled};
 use testing::tally::Tally;
+use testing::words::VECTORS;
 
 // Each function at a width, of zeros: refused at a place, or shown.
 pub fn at_width(rt: &HostRuntime, width: u32, out_of_range: Option<usize>) -> Tally {
@@ -22,12 +23,6 @@ pub fn at_width(rt: &HostRuntime, width: u32, out_of_range: Option<usize>) -> Ta
     tally
 }
 
-// Table 4, with LIMPL and RIMPL as in Table 2.
-const VECTORS: [u64; 16] = [
-    0b0000, 0b1111, 0b0001, 0b1110, 0b0111, 0b1000, 0b0110, 0b1001, 0b0011, 0b0101, 0b1100, 0b1010,
-    0b0100, 0b0010, 0b1101, 0b1011,
-];
-
 // At 0011 and 0101 each pair of bits stands at the place of its minterm, so that a logic function shows its vector.
 pub fn vectors(rt: &HostRuntime) -> Tally {
     let mut tally = Tally::none();
@@ -41,7 +36,7 @@ pub fn vectors(rt: &HostRuntime) -> Tally {
                 carry: 0,
             },
         };
-        let is_vector = of_reference(given).is_ok_and(|shown| shown.o0 == *vector);
+        let is_vector = of_reference(given).is_ok_and(|shown| shown.o0 == *vector as u64);
         count(rt, &mut tally, given, agree(given, None) & is_vector);
     }
     tally

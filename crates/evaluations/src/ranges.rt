@@ -7,12 +7,10 @@ use testing::tally::Tally;
 
 const FUNCTIONS: [u32; 5] = [1, 27, 0, 28, 4294967295];
 
-const WIDTHS: [u32; 5] = [1, 63, 0, 65, 4294967295];
+// Each width and the one that the operands are made for: 8 where the width itself is out of range.
+const WIDTHS: [(u32, u32); 5] = [(1, 1), (63, 63), (0, 8), (65, 8), (4294967295, 8)];
 
 const CARRIES: [u32; 5] = [0, 1, 2, 3, 4294967295];
-
-// The width that the operands are made for; 8 where the width itself is out of range.
-const BITS: [u32; 5] = [1, 63, 8, 8, 8];
 
 // An operand: of the five values of each, two have n bits and three have more.
 fn operand(n: u32, k: u32) -> u64 {
@@ -28,12 +26,11 @@ fn operand(n: u32, k: u32) -> u64 {
 // The i-th choice of five.
 fn choice(i: u32) -> Given {
     let function = i % 5;
-    let width = i / 5 % 5;
     let carry = i / 625 % 5;
-    let n = BITS[width as usize];
+    let (width, n) = WIDTHS[(i / 5 % 5) as usize];
     Given {
         function: FUNCTIONS[function as usize],
-        width: WIDTHS[width as usize],
+        width,
         operands: Operands {
             left: operand(n, i / 25 % 5),
             right: operand(n, i / 125 % 5),

@@ -1,38 +1,21 @@
 // What map_job, work_bench and check_mapping print of files: their words, and how many bytes of them are read.
-ghost use Rattle.std.specs.Prelude.{◌≤◌};
-
 use input::Input;
 use sequence::MOST_MAPPING_WORDS;
 use text::Text;
 
-// What is read of so many bytes of a file that has so many words.
-fn read_of(bytes: usize, words: usize) -> Input
-    ensures { result.kept ≤ words }
-{
-    let whole = bytes / 4;
-    Input {
-        kept: whole.min(words),
-        whole,
-        cut: bytes % 4 != 0,
-    }
-}
-
 pub fn map(rt: &HostRuntime, job: &[u32], bytes: usize) {
-    let input = read_of(bytes, job.len());
-    let kept = input.kept;
+    // Kept: lent words and how many were written, as document 01 has a mapping written.
     let mut lent = [0u32; MOST_MAPPING_WORDS];
     let mut text = Text::new();
-    let mapped = map_answers::map_input(&job[..kept], Ok(input), &mut lent, &mut text);
+    let mapped = map_answers::map_input(Ok(Input::of_words(job, bytes)), &mut lent, &mut text);
     if mapped.is_ok() {
         console::print(rt, text.as_bytes());
     }
 }
 
 pub fn open(rt: &HostRuntime, job: &[u32], bytes: usize) {
-    let input = read_of(bytes, job.len());
-    let kept = input.kept;
     let mut text = Text::new();
-    bench_answers::open(&job[..kept], Ok(input), &mut text);
+    bench_answers::open(Ok(Input::of_words(job, bytes)), &mut text);
     console::print(rt, text.as_bytes());
 }
 
@@ -43,17 +26,9 @@ pub fn check(
     mapping: &[u32],
     mapping_bytes: usize,
 ) {
-    let first = read_of(job_bytes, job.len());
-    let second = read_of(mapping_bytes, mapping.len());
-    let kept = first.kept;
-    let bound = second.kept;
+    let first = Input::of_words(job, job_bytes);
+    let second = Input::of_words(mapping, mapping_bytes);
     let mut text = Text::new();
-    check_answers::check_inputs(
-        &job[..kept],
-        Ok(first),
-        &mapping[..bound],
-        Ok(second),
-        &mut text,
-    );
+    check_answers::check_inputs(Ok(first), Ok(second), &mut text);
     console::print(rt, text.as_bytes());
 }

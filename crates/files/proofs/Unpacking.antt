@@ -42,8 +42,8 @@ module _ (bytes words whole : List ℕ) (i : ℕ) (e : sets words i (words_of (d
       let q : 4 * (i + 1) ≡ 4 * i + 4 = omega arith in
       rw (q, p, u) (rw (four_next bytes (4 * i) (omega arith)) at e)
 
-  pub all_words : length bytes / 4 ≤ i → words ≡ whole
-  all_words h = rw (rest_none (drop (4 * i) bytes) (omega (arith, length-drop (4 * i) bytes))) at e
+pub all_words : (bytes words : List ℕ) (i : ℕ) → length bytes / 4 ≤ i → sets words i (words_of (drop (4 * i) bytes)) ≡ words
+all_words bytes words i h = rw (rest_none (drop (4 * i) bytes) (omega (arith, length-drop (4 * i) bytes))) refl
 
 -- ---- a word's bytes are its own, and a file written word by word is read back
 

@@ -19,7 +19,7 @@ pub fn bytes_of(word: u32) -> [u8; 4]
 }
 
 // The whole words of a file, put into lent ones, and how many they are.
-#[tactic(auto, using(crate::proofs::Unpacking::one_word))]
+#[tactic(auto, using(crate::proofs::Unpacking::one_word, crate::proofs::Unpacking::all_words))]
 pub fn words_of(bytes: &[u8], words: &mut [u32]) -> usize
     requires { length bytes.now / 4 ≤ length words.old }
     ensures count { result ≡ length bytes.now / 4 }

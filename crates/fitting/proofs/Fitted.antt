@@ -1,13 +1,13 @@
--- The ways out of deciding whether a mapping fits its job.
-use mathlib.Core.Path.{◌≡◌, refl, ap, ◌∙◌}
+-- The bindings of a mapping one by one; and a mapping fits its job exactly if its width and each binding do.
+use mathlib.Core.Path.{◌≡◌, refl}
 use mathlib.Core.Logic.{◌↔◌}
-use mathlib.Core.Bool.{Bool, true, false, not}
+use mathlib.Core.Bool.{true, not}
 use mathlib.Core.List.{List, [], ◌∷◌}
 use Prim.Native.Nat.{ℕ, zero, suc, ◌+◌, ◌≤◌, ◌<◌}
 use native.Mathlib.Omega.{arith}
 use lib.Dec.{eqb}
 use lib.ListN.{length, drop, get_or, drop_of_length-le}
-use borrow.Author.Tests.{eq-eqb, ne_eqb, eqb-true, not-true, not-false}
+use borrow.Author.Tests.{eq-eqb, eqb-true, not-false}
 use Rattle.std.specs.Prelude.{if◌then◌else◌, Result, Ok, Err, ⊤}
 use Rattle.words.specs.Paper.{refusal}
 use Rattle.words.proofs.Choices.{either}
@@ -18,41 +18,20 @@ use Rattle.table.specs.Parts.{Terms}
 use Rattle.table.specs.Table.{in_job}
 use Rattle.fitting.specs.Fitting.{all_in_job, fit_of}
 use Rattle.words.specs.declared.Refusal.{Refusal}
-use Rattle.words.specs.declared.Fault.TheVariants.{NotInJob, OtherWidth}
+use Rattle.words.specs.declared.Fault.TheVariants.{NotInJob}
 
 -- ---- the loop over the bindings
 
-module _ (ss ts ws : List ℕ) (i : ℕ) (e : all_in_job ss ts (bindings_start + i) (drop i ws) ≡ all_in_job ss ts bindings_start ws) where
-  pub none_strange : length ws ≤ i → (Ok tt) ≡ all_in_job ss ts bindings_start ws
+module _ (ss ts ws : List ℕ) (place i : ℕ) where
+  pub next_binding : i < length ws
+      → all_in_job ss ts place (drop i ws)
+      ≡ (if not (in_job ss ts (get_or ws i 0)) then Err (refusal NotInJob place) else all_in_job ss ts (place + 1) (drop (i + 1) ws))
   unfolding all_in_job
-  none_strange h = rw (drop_of_length-le ws h) at e
+  next_binding h = rw (drop-next ws i h) refl
 
-  module _ (h : i < length ws) (b : Bool) (eb : b ≡ in_job ss ts (get_or ws i 0)) where
-    opened : (if not b then Err (refusal NotInJob (bindings_start + i)) else all_in_job ss ts (bindings_start + i + 1) (drop (i + 1) ws))
-        ≡ all_in_job ss ts bindings_start ws
-    unfolding all_in_job
-    opened =
-        ap (λ (x : Bool). if not x then Err (refusal NotInJob (bindings_start + i)) else all_in_job ss ts (bindings_start + i + 1) (drop (i + 1) ws)) eb
-        ∙ (rw (drop-next ws i h) at e)
-
-    pub strange : not b ≡ true → Err (refusal NotInJob (bindings_start + i)) ≡ all_in_job ss ts bindings_start ws
-    strange u = rw (not-true b u) at opened
-
-    pub in_place : not b ≡ false → all_in_job ss ts (bindings_start + (i + 1)) (drop (i + 1) ws) ≡ all_in_job ss ts bindings_start ws
-    in_place u =
-        let n : bindings_start + (i + 1) ≡ bindings_start + i + 1 = omega arith in
-        ap (λ (x : ℕ). all_in_job ss ts x (drop (i + 1) ws)) n ∙ (rw (not-false b u) at opened)
-
--- ---- the width, then the bindings
-
-module _ (t : Terms) (m : Mapping) (ws : List ℕ) where
-  pub other_width : (t.width ≡ m.width → ⊥) → Err (refusal OtherWidth 0) ≡ fit_of t m ws
-  unfolding fit_of
-  other_width h = rw (ne_eqb t.width m.width h) refl
-
-  pub same_width : (r : Result ⊤ Refusal) → t.width ≡ m.width → r ≡ all_in_job t.sources t.targets bindings_start ws → r ≡ fit_of t m ws
-  unfolding fit_of
-  same_width r h er = rw (eq-eqb t.width m.width h) er
+  pub none_strange : length ws ≤ i → all_in_job ss ts place (drop i ws) ≡ Ok tt
+  unfolding all_in_job
+  none_strange h = rw (drop_of_length-le ws h) refl
 
 -- ---- a mapping fits exactly if the widths are the same and each binding is in the job
 

@@ -29,6 +29,7 @@ impl From<Refusal> for PairError {
 }
 
 // A job and a mapping, or the first refusal, 1 to 6. The job is read in full before the mapping.
+#[tactic(auto, unfolding(crate::specs::Pair::pair_of))]
 pub fn read_pair(job: &[u32], mapping: &[u32]) -> Result<(Job, Mapping), PairError>
     ensures { result ≡ P.pair_of job.now mapping.now }
 {
@@ -38,6 +39,7 @@ pub fn read_pair(job: &[u32], mapping: &[u32]) -> Result<(Job, Mapping), PairErr
 }
 
 // Whether the functions of all bindings are in the job.
+#[tactic(auto, using(crate::proofs::Fitted::next_binding, crate::proofs::Fitted::none_strange))]
 fn all_in_job(terms: &Terms, bindings: &[u32]) -> Result<(), Refusal>
     ensures { result ≡ F.all_in_job terms.now.sources.now terms.now.targets.now bindings_start bindings.now }
 {
@@ -53,6 +55,7 @@ fn all_in_job(terms: &Terms, bindings: &[u32]) -> Result<(), Refusal>
 }
 
 // Whether a mapping fits its job, or the first refusal, 7 or 8: the width first, then the bindings.
+#[tactic(auto, unfolding(crate::specs::Fitting::fit_of))]
 pub fn fit_of(terms: &Terms, mapping: Mapping, bindings: &[u32]) -> Result<(), Refusal>
     ensures { result ≡ F.fit_of (T.terms_held terms.now) mapping bindings.now }
 {

@@ -68,3 +68,5 @@ grown (Some fault) s k f i c = tt
 pub one_more : (file : File) (s t : State) (w i : ℕ) (d : Result State Fault) → d ≡ step_of file s w → d ≡ Ok t → Counted s i → Counted t (i + 1)
 unfolding Grown
 one_more file s t w i d p q c = subst (Grown i) (sym p ∙ q) (grown (word_fault file s w) s (kind_of w) (function_in w) i c)
+
+pub ruleset turns = (turn, stop, at_end, one_more)

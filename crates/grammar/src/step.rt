@@ -1,13 +1,11 @@
 // One word: refusals 2 to 6 in this order, or the state after it.
 ghost use Rattle.std.specs.Prelude.{◌≡◌, ◌≤◌};
-ghost use Rattle.words.specs.Field.{kind_of};
-ghost use Rattle.words.specs.Kinds.{kind_number};
 ghost use Rattle.sequence.specs.Limits.{most_job_words};
 ghost use Rattle.grammar.specs.Reading as R;
 ghost use Rattle.grammar.specs.Asked as Q;
 
 use sequence::{File, Last, State, in_sequence};
-use words::{Fault, WordKind, content_of, kind_of};
+use words::{Fault, Word, WordKind, content_of};
 
 // What a header must be: a width, and in a job bit 7 besides, which asks for the book.
 fn header_fits(file: File, word: u32) -> bool
@@ -20,83 +18,80 @@ fn header_fits(file: File, word: u32) -> bool
 }
 
 // What stands below a word's kind is as the layout says.
-fn kind_fits(file: File, kind: WordKind, word: u32) -> bool
-    requires { kind_of word ≡ kind_number kind }
-    ensures { result ≡ R.fits file word }
+#[tactic(auto, unfolding(crate::specs::Reading::fits))]
+fn kind_fits(file: File, word: Word) -> bool
+    ensures { result ≡ R.fits file word.bits }
 {
-    let content = content_of(word);
-    match kind {
-        WordKind::Header => header_fits(file, word),
+    let content = content_of(word.bits);
+    match word.kind {
+        WordKind::Header => header_fits(file, word.bits),
         WordKind::Prices => content < 0x0100_0000,
         WordKind::Source => alu::is_function(content),
         WordKind::Target => alu::is_function(content),
         WordKind::Glue => true,
-        WordKind::Rule => layout::laid_out(word),
-        WordKind::Binding => layout::laid_out(word),
+        WordKind::Rule => layout::laid_out(word.bits),
+        WordKind::Binding => layout::laid_out(word.bits),
     }
 }
 
 // Refusal 3 unless this holds: the bits below the kind are as the layout says.
-#[tactic(auto, using(crate::proofs::Steps::fits_unnamed, words::proofs::Named::named))]
+#[tactic(auto, unfolding(crate::specs::Reading::fits))]
 pub fn fits(file: File, word: u32) -> bool
     ensures { result ≡ R.fits file word }
 {
-    match kind_of(word) {
-        Some(kind) => kind_fits(file, kind, word),
+    match Word::of(word) {
+        Some(word) => kind_fits(file, word),
         None => layout::laid_out(word),
     }
 }
 
-// The function by which a word of this kind rises.
-#[tactic(auto, using(crate::proofs::Steps::function_by, crate::proofs::Steps::recipe_function))]
-fn function_in(kind: WordKind, word: u32) -> u32
-    requires { kind_of word ≡ kind_number kind }
-    ensures { result ≡ R.function_in word }
+// The function by which a word rises.
+fn function_in(word: Word) -> u32
+    ensures { result ≡ R.function_in word.bits }
 {
-    match kind {
-        WordKind::Source => words::source_function(word),
-        WordKind::Target => words::target_function(word),
-        _ => recipe::source_of(word),
+    match word.kind {
+        WordKind::Source => words::source_function(word.bits),
+        WordKind::Target => words::target_function(word.bits),
+        _ => recipe::source_of(word.bits),
     }
 }
 
-// Refusal 4 unless this holds of a word of this kind: the function is above the one before. Rules need no order.
-fn rises(s: State, kind: WordKind, word: u32) -> bool
-    requires { kind_of word ≡ kind_number kind }
-    ensures { result ≡ R.rises s word }
+// Refusal 4 unless this holds: the function is above the one before, of a word of the same kind. Rules need no order.
+#[tactic(auto, using(crate::proofs::Steps::not_at_start), unfolding(crate::specs::Reading::rises))]
+fn rises(s: State, word: Word) -> bool
+    ensures { result ≡ R.rises s word.bits }
 {
     let Some(last) = s.last else {
         return true;
     };
-    match kind {
+    match word.kind {
         WordKind::Rule => true,
-        _ if s.ends_in(kind) => last.function < function_in(kind, word),
+        _ if s.ends_in(word.kind) => last.function < function_in(word),
         _ => true,
     }
 }
 
-// The refusal of a word of this kind, 2 to 6, or none.
-#[tactic(auto, using(crate::proofs::Steps::refusals))]
-fn word_fault(file: File, s: State, kind: WordKind, word: u32) -> Option<Fault>
-    requires { kind_of word ≡ kind_number kind }
-    ensures { result ≡ R.word_fault file s word }
+// The refusal of a word, 2 to 6, or none.
+#[tactic(auto, unfolding(crate::specs::Reading::word_fault))]
+fn word_fault(file: File, s: State, word: Word) -> Option<Fault>
+    ensures { result ≡ R.word_fault file s word.bits }
 {
-    if !in_sequence(file, s, kind) {
+    if !in_sequence(file, s, word.kind) {
         return Some(Fault::OutOfSequence);
     }
-    if !kind_fits(file, kind, word) {
+    if !kind_fits(file, word) {
         return Some(Fault::NotLaidOut);
     }
-    if !rises(s, kind, word) {
+    if !rises(s, word) {
         return Some(Fault::NotRising);
     }
-    if !kind.is_recipe() {
+    if !word.kind.is_recipe() {
         return None;
     }
-    if layout::reads_undriven(word) {
+    if layout::reads_undriven(word.bits) {
         return Some(Fault::ReadsUndriven);
     }
-    if layout::shows_other(word) {
+    if layout::shows_other(word.bits) {
         return Some(Fault::OtherOutputs);
     }
     None
@@ -109,12 +104,13 @@ fn raised(count: u32, more: bool) -> u32
     if more { count + 1 } else { count }
 }
 
-// The state after a word of this kind that passed.
-fn after(s: State, kind: WordKind, word: u32) -> State
-    requires { Q.Counted s most_job_words × (kind_of word ≡ kind_number kind) }
-    ensures { result ≡ R.after s word }
+// The state after a word that passed.
+fn after(s: State, word: Word) -> State
+    requires { Q.Counted s most_job_words }
+    ensures { result ≡ R.after s word.bits }
 {
-    let function = function_in(kind, word);
+    let kind = word.kind;
+    let function = function_in(word);
     State {
         last: Some(Last { kind, function }),
         sources: raised(s.sources, kind == WordKind::Source),
@@ -130,11 +126,11 @@ pub fn pass(file: File, s: State, word: u32) -> Result<State, Fault>
     requires { Q.Counted s most_job_words }
     ensures { result ≡ R.step_of file s word }
 {
-    let Some(kind) = kind_of(word) else {
+    let Some(word) = Word::of(word) else {
         return Err(Fault::OutOfSequence);
     };
-    match word_fault(file, s, kind, word) {
-        None => Ok(after(s, kind, word)),
+    match word_fault(file, s, word) {
+        None => Ok(after(s, word)),
         Some(fault) => Err(fault),
     }
 }

@@ -1,7 +1,9 @@
 -- What reading hands on from one read to the next. Nobody has to believe this: Read.antt says what is read in the end.
-use Rattle.std.specs.Prelude.{ℕ, ◌-◌, ◌≡◌, List, Result, Ok, Err, length, take}
+use Rattle.std.specs.Prelude.{ℕ, ◌-◌, ◌≡◌, List, Result, Ok, Err, min, length, take}
 use Rattle.std.proofs.lemmas.List.Edits.{sets}
+use Rattle.files.specs.Files.{words_of}
 use Rattle.console.specs.declared.Failed.{Failed}
+use Rattle.input.specs.Read.{Words, kept_bytes}
 
 -- the bytes that a read brings are kept behind those before, as far as there is room
 pub record BringsBytes (kept : List ℕ) (at : ℕ) (after : List ℕ) (count : ℕ) : Type 0 where
@@ -19,3 +21,11 @@ pub record Keeps (kept after : List ℕ) (bytes : ℕ) : Type 0 where
   pub file : List ℕ
   pub size : bytes ≡ length file
   pub kept_first : after ≡ sets kept 0 (take (length kept) file)
+
+-- what is read of a file of so many bytes, by those of them that were kept
+abbrev pub words_from : List ℕ → ℕ → Words
+words_from bytes size = record { words = words_of (take (min size kept_bytes) bytes); bytes = size }
+
+abbrev pub input_from : List ℕ → Result ℕ Failed → Result Words Failed
+input_from bytes (Ok size) = Ok (words_from bytes size)
+input_from bytes (Err e) = Err e

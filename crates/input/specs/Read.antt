@@ -1,11 +1,9 @@
 -- What is said of a file that was read: "a last word cut short is 2 at its index". Which bytes a file has, and whether a read failed, is
 -- the system's choice; all else follows from it.
-use Rattle.std.specs.Prelude.{ℕ, ◌+◌, ◌*◌, ◌/◌, ◌%◌, ◌≡◌, not, List, Result, Ok, Err, eqb, ltb, length, take, if◌then◌else◌}
-use Rattle.std.proofs.lemmas.List.Edits.{sets}
+use Rattle.std.specs.Prelude.{ℕ, ◌+◌, ◌*◌, ◌/◌, ◌%◌, ◌≡◌, Option, None, Some, List, Result, Ok, Err, ⊤, eqb, length, take, if◌then◌else◌}
 use Rattle.sequence.specs.Limits.{most_job_words}
 use Rattle.files.specs.Files.{words_of}
 use Rattle.console.specs.declared.Failed.{Failed}
-use Rattle.input.specs.declared.Input.{Input}
 
 -- Of a file longer than any job so many words are kept, one more than a job can have; and their bytes.
 abbrev pub kept_words : ℕ
@@ -14,29 +12,32 @@ kept_words = most_job_words + 1
 abbrev pub kept_bytes : ℕ
 kept_bytes = 4 * kept_words
 
-abbrev pub least : ℕ → ℕ → ℕ
-least a b = if ltb a b then a else b
+-- what is kept of a file: its first words, and how many bytes it has
+pub record Words : Type 0 where
+  pub words : List ℕ
+  pub bytes : ℕ
 
-abbrev pub input_of : ℕ → Input
-input_of bytes =
-    record {
-      kept = least bytes kept_bytes / 4;
-      whole = bytes / 4;
-      cut = not (eqb (bytes % 4) 0);
-    }
+-- the whole words of the file, kept or not
+abbrev pub whole : Words → ℕ
+whole input = input.bytes / 4
 
--- what was read into lent words: the file's bytes
-pub record ReadToEnd (words after : List ℕ) (r : Input) : Type 0 where
+-- the index of a last word that is cut short, if one is
+abbrev pub cut_at : Words → Option ℕ
+cut_at input = if eqb (input.bytes % 4) 0 then None else Some (whole input)
+
+-- of so many bytes of a file of these words
+abbrev pub kept_of : List ℕ → ℕ → Words
+kept_of words bytes = record { words = take kept_words (take (bytes / 4) words); bytes = bytes }
+
+abbrev pub input_of : List ℕ → Words
+input_of file = record { words = words_of (take kept_bytes file); bytes = length file }
+
+-- what was read: the file's bytes
+pub record ReadToEnd (input : Words) : Type 0 where
   pub file : List ℕ
-  pub same : r ≡ input_of (length file)
-  pub kept : after ≡ sets words 0 (words_of (take kept_bytes file))
+  pub same : input ≡ input_of file
 
--- or a read failed, and the lent words are as they were
-abbrev pub Read : List ℕ → List ℕ → Result Input Failed → Type 0
-Read words after (Ok r) = ReadToEnd words after r
-Read words after (Err e) = after ≡ words
-
--- how many words were kept
-abbrev pub kept_in : Result Input Failed → ℕ
-kept_in (Ok r) = r.kept
-kept_in (Err e) = 0
+-- or that a read failed
+abbrev pub Read : Result Words Failed → Type 0
+Read (Ok input) = ReadToEnd input
+Read (Err e) = ⊤

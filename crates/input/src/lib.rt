@@ -3,13 +3,13 @@
 
 ghost use Rattle.std.specs.Prelude.{◌≡◌, ◌-◌, ◌≤◌, IfOk, length, take};
 ghost use Rattle.std.proofs.lemmas.List.Edits.{sets};
-ghost use Rattle.files.specs.Files as F;
 ghost use Rattle.input.specs.Read as R;
 ghost use Rattle.input.specs.Kept as K;
 
 use console::Failed;
 use std::fs::File;
 use std::io::{Error, ErrorKind, Read};
+use std::marker::Model;
 use std::str;
 
 // The most words that are kept, and their bytes.
@@ -23,15 +23,70 @@ const CHUNK: usize = 4096;
 // More bytes than a file has.
 const MOST: usize = 4611686018427387904;
 
-// What was read: how many words were kept, the whole words of the file, and whether a last word is cut short.
-#[derive(Clone, Copy)]
+// What was read of a file: the words that were kept, and how many bytes the file has.
+// Kept: no heap, a rule of the project.
+#[derive(Drop)]
 pub struct Input {
-    pub kept: usize,
-    pub whole: usize,
-    pub cut: bool,
+    words: [u32; KEPT_WORDS],
+    kept: usize,
+    bytes: usize,
+}
+
+impl Model for Input {
+    ghost use Rattle.std.specs.Prelude.{take, ◌≤◌};
+    ghost use Rattle.input.specs.Read.{Words, kept_words};
+
+    ghost Value = { Words };
+
+    ghost view = { λ i. record { words = take i.kept i.words; bytes = i.bytes } };
+
+    ghost invariant = { λ i. i.kept ≤ kept_words };
+}
+
+impl Input {
+    // What is read of so many bytes of a file of these words: the first of its whole words, as many as are kept.
+    #[tactic(auto, using(crate::proofs::Chunks::words_taken))]
+    pub fn of_words(words: &[u32], bytes: usize) -> Input
+        ensures { result ≡ R.kept_of words.now bytes }
+    {
+        let mut room = [0u32; KEPT_WORDS];
+        let whole = words.len().min(bytes / 4);
+        let kept = KEPT_WORDS.min(whole);
+        room[..kept].copy_from_slice(&words[..kept]);
+        Input {
+            words: room,
+            kept,
+            bytes,
+        }
+    }
+
+    // The words that were kept.
+    pub fn words(&self) -> &[u32]
+        ensures { result.now ≡ self.now.words }
+    {
+        &self.words[..self.kept]
+    }
+
+    // The index of a last word that is cut short, if one is.
+    pub fn cut_at(&self) -> Option<usize>
+        ensures { result ≡ R.cut_at self.now }
+    {
+        if self.bytes % 4 == 0 {
+            return None;
+        }
+        Some(self.whole())
+    }
+
+    // The whole words of the file, kept or not.
+    pub fn whole(&self) -> usize
+        ensures { result ≡ R.whole self.now }
+    {
+        self.bytes / 4
+    }
 }
 
 // Puts bytes behind those that are kept already, as far as there is room.
+#[tactic(auto, using(crate::proofs::Parts::some_kept))]
 fn keep(chunk: &[u8], kept: &mut [u8], at: usize)
     ensures { kept.new ≡ sets kept.old at (take (length kept.old - at) chunk.now) }
 {
@@ -98,62 +153,56 @@ fn read_bytes<S: Read>(
     Ok(bytes)
 }
 
-// The words of the bytes that were kept of so many, and what was read.
-fn words_read(bytes: &[u8], size: usize, words: &mut [u32]) -> Input
-    requires { (length bytes.now ≡ R.kept_bytes) × (R.kept_words ≤ length words.old) }
-    ensures read { result ≡ R.input_of size }
-    ensures words { words.new ≡ sets words.old 0 (F.words_of (take (R.least size R.kept_bytes) bytes.now)) }
+// What is read of a file of so many bytes, by those of them that were kept; nothing of a file whose reading failed.
+#[tactic(auto, using(crate::proofs::Chunks::words_put))]
+fn input_from(bytes: &[u8], size: Result<usize, Failed>) -> Result<Input, Failed>
+    requires { length bytes.now ≡ R.kept_bytes }
+    ensures { result ≡ K.input_from bytes.now size }
 {
+    let size = size?;
+    let mut words = [0u32; KEPT_WORDS];
     let n = size.min(KEPT_BYTES);
-    let kept = files::words_of(&bytes[..n], words);
-    Input {
+    let kept = files::words_of(&bytes[..n], &mut words);
+    Ok(Input {
+        words,
         kept,
-        whole: size / 4,
-        cut: size % 4 != 0,
-    }
+        bytes: size,
+    })
 }
 
-// Reads words to the end of a reader. A read that fails is said on standard error, by the reader's name, and leaves the lent words as they were.
+// Reads words to the end of a reader. A read that fails is said on standard error, by the reader's name.
 #[tactic(auto, using(crate::proofs::Chunks::all_read))]
-pub fn read_words<S: Read>(
-    rt: &HostRuntime,
-    reader: &mut S,
-    name: &[u8],
-    words: &mut [u32],
-) -> Result<Input, Failed>
-    requires { R.kept_words ≤ length words.old }
-    ensures few { IfOk result (λ input. input.kept ≤ R.kept_words) }
-    ensures read { R.Read words.old words.new result }
+pub fn read_words<S: Read>(rt: &HostRuntime, reader: &mut S, name: &[u8]) -> Result<Input, Failed>
+    ensures { R.Read result }
 {
     let mut bytes = [0u8; KEPT_BYTES];
-    let size = read_bytes(rt, reader, name, &mut bytes)?;
-    Ok(words_read(&bytes, size, words))
+    let size = read_bytes(rt, reader, name, &mut bytes);
+    input_from(&bytes, size)
 }
 
-// How many words were kept: none of a file that could not be read.
-pub fn kept(input: Result<Input, Failed>) -> usize
-    ensures { result ≡ R.kept_in input }
+// Opens a file in the given way. Its name is text.
+pub fn open_by<F: FnOnce(&str) -> Result<File, Error>>(path: &[u8], way: F) -> Result<File, Error>
+    requires { F.IsAlwaysCallable way }
 {
-    input.map_or(0, |read| read.kept)
-}
-
-// Opens a file for reading. Its name is text.
-pub fn open(rt: &HostRuntime, path: &[u8]) -> Result<File, Error> {
     match str::from_utf8(path) {
-        Ok(name) => File::open(rt, name),
+        Ok(name) => way(name),
         Err(_) => Err(Error::from(ErrorKind::InvalidFilename)),
     }
 }
 
+// Opens a file for reading.
+pub fn open(rt: &HostRuntime, path: &[u8]) -> Result<File, Error> {
+    open_by(path, |name| File::open(rt, name))
+}
+
 // Reads the file that an argument names, or says why it cannot.
-pub fn read_file(rt: &HostRuntime, argument: usize, words: &mut [u32]) -> Result<Input, Failed>
-    requires { R.kept_words ≤ length words.old }
-    ensures { IfOk result (λ input. input.kept ≤ R.kept_words) }
+pub fn read_file(rt: &HostRuntime, argument: usize) -> Result<Input, Failed>
+    ensures { R.Read result }
 {
     let mut path = [0u8; arguments::MOST_BYTES];
     let length = arguments::put_argument(rt, argument, &mut path);
     match open(rt, &path[..length]) {
-        Ok(mut file) => read_words(rt, &mut file, &path[..length], words),
+        Ok(mut file) => read_words(rt, &mut file, &path[..length]),
         Err(why) => {
             console::fail(rt, &path[..length], why);
             Err(Failed)

@@ -37,8 +37,8 @@ refused-alike w n r e p =
     rw (width_of 1 (omega arith) (omega arith)) (alike n (not (is_recipe (kind_of w))) (recipe_fault w) _ r (claim_of w) (rw e at p))
 
 module _ (w n : ℕ) (l : 1 ≤ n) (m : n ≤ 64) where
-  pub refused-everywhere : (r : Refusal) → Judged w n (Err r) → JudgedEverywhere w (Err r)
-  refused-everywhere r p = refused-alike w n r (width_of n l m) p
+  pub refused_everywhere : (r : Refusal) → Judged w n (Err r) → JudgedEverywhere w (Err r)
+  refused_everywhere r p = refused-alike w n r (width_of n l m) p
 
   module _ (below : RightBelow w n) (v : Verdict) (p : Judged w n (Ok v)) where
     judged_as : (u : Verdict) → v ≡ u → Judged w n (Ok u)

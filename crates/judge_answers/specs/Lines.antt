@@ -9,10 +9,6 @@ use Rattle.words.specs.declared.Refusal.{Refusal}
 use Rattle.judge_answers.specs.Everywhere.{JudgedEverywhere}
 use Rattle.judge_answers.specs.declared.WrongAt.{WrongAt}
 
--- no more bytes stand behind the word
-abbrev pub most_behind_bytes : ℕ
-most_behind_bytes = 152
-
 -- what stands behind the word
 abbrev pub judgement_text : Result Verdict Refusal → List ℕ
 judgement_text (Ok IsRight) = bytes " RIGHT\n"

@@ -7,6 +7,7 @@ ghost use Rattle.lines.specs.Lines as L;
 ghost use Rattle.verdict.specs.declared.Verdict.TheVariants as D;
 ghost use Rattle.judge_answers.specs.Everywhere as E;
 ghost use Rattle.judge_answers.specs.Lines as S;
+ghost use Rattle.judge_answers.specs.Room as M;
 
 use text::Text;
 use verdict::Verdict;
@@ -20,6 +21,7 @@ pub struct WrongAt {
 }
 
 // Judges a recipe word at every width, the least first: none where it is right at all, or the least at which it is wrong.
+#[tactic(auto, using(crate::proofs::Widths::refused_everywhere, crate::proofs::Widths::right_at_all, crate::proofs::Widths::right_at_none, crate::proofs::Widths::right_more, crate::proofs::Widths::wrong_first))]
 fn judge_everywhere(word: u32) -> Result<Option<WrongAt>, Refusal>
     ensures { E.JudgedEverywhere word result }
 {
@@ -34,8 +36,8 @@ fn judge_everywhere(word: u32) -> Result<Option<WrongAt>, Refusal>
 
 // A refusal behind the word.
 fn put_refused(refusal: Refusal, line: &mut Text)
-    requires { length line.old + S.most_behind_bytes ≤ room }
-    ensures short { length line.new ≤ length line.old + S.most_behind_bytes }
+    requires { length line.old + M.most_behind_bytes ≤ room }
+    ensures short { length line.new ≤ length line.old + M.most_behind_bytes }
     ensures text { line.new ≡ line.old ++ S.judgement_text (Err refusal) }
 {
     line.put(b" ");
@@ -45,8 +47,8 @@ fn put_refused(refusal: Refusal, line: &mut Text)
 
 // A wrong recipe's operands behind the word.
 fn put_wrong(witness: Witness, line: &mut Text)
-    requires { length line.old + S.most_behind_bytes ≤ room }
-    ensures short { length line.new ≤ length line.old + S.most_behind_bytes }
+    requires { length line.old + M.most_behind_bytes ≤ room }
+    ensures short { length line.new ≤ length line.old + M.most_behind_bytes }
     ensures text { line.new ≡ line.old ++ S.judgement_text (Ok (D.Wrong witness)) }
 {
     line.put(b" WRONG");
@@ -56,8 +58,8 @@ fn put_wrong(witness: Witness, line: &mut Text)
 
 // The width and a wrong recipe's operands behind the word.
 fn put_wrong_at(wrong: WrongAt, line: &mut Text)
-    requires { length line.old + S.most_behind_bytes ≤ room }
-    ensures short { length line.new ≤ length line.old + S.most_behind_bytes }
+    requires { length line.old + M.most_behind_bytes ≤ room }
+    ensures short { length line.new ≤ length line.old + M.most_behind_bytes }
     ensures text { line.new ≡ line.old ++ S.everywhere_text (Ok (Some wrong)) }
 {
     line.put_labelled(b" WRONG WIDTH ", wrong.width as u64);
@@ -67,8 +69,8 @@ fn put_wrong_at(wrong: WrongAt, line: &mut Text)
 
 // A judgement behind the word.
 fn put_judgement(judgement: Result<Verdict, Refusal>, line: &mut Text)
-    requires { length line.old + S.most_behind_bytes ≤ room }
-    ensures short { length line.new ≤ length line.old + S.most_behind_bytes }
+    requires { length line.old + M.most_behind_bytes ≤ room }
+    ensures short { length line.new ≤ length line.old + M.most_behind_bytes }
     ensures text { line.new ≡ line.old ++ S.judgement_text judgement }
 {
     match judgement {
@@ -81,8 +83,8 @@ fn put_judgement(judgement: Result<Verdict, Refusal>, line: &mut Text)
 // The judgement at every width behind the word.
 // Kept: one function for this and put_judgement would take a width that may be lacking, or a closure; no plainer than three arms.
 fn put_everywhere_text(everywhere: Result<Option<WrongAt>, Refusal>, line: &mut Text)
-    requires { length line.old + S.most_behind_bytes ≤ room }
-    ensures short { length line.new ≤ length line.old + S.most_behind_bytes }
+    requires { length line.old + M.most_behind_bytes ≤ room }
+    ensures short { length line.new ≤ length line.old + M.most_behind_bytes }
     ensures text { line.new ≡ line.old ++ S.everywhere_text everywhere }
 {
     match everywhere {
@@ -93,6 +95,7 @@ fn put_everywhere_text(everywhere: Result<Option<WrongAt>, Refusal>, line: &mut 
 }
 
 // The line of a word judged at a width.
+#[tactic(auto, unfolding(text::specs::Text::hexadecimal))]
 pub fn put_at(word: u32, width: u32, line: &mut Text)
     requires { length line.old + L.most_line_bytes ≤ room }
     ensures short { length line.new ≤ length line.old + L.most_line_bytes }
@@ -104,6 +107,7 @@ pub fn put_at(word: u32, width: u32, line: &mut Text)
 }
 
 // The line of a word judged at every width.
+#[tactic(auto, unfolding(text::specs::Text::hexadecimal))]
 pub fn put_everywhere(word: u32, line: &mut Text)
     requires { length line.old + L.most_line_bytes ≤ room }
     ensures short { length line.new ≤ length line.old + L.most_line_bytes }

@@ -30,6 +30,7 @@ fn judge_word(rt: &HostRuntime, word: u32, widths: Widths) -> bool {
 }
 
 // Judges each word, until the text is over or a line cannot be printed.
+#[tactic(auto, unfolding(word_text::specs::Next::Forward))]
 fn judge_all(rt: &HostRuntime, widths: Widths) {
     let mut text = word_text::unread();
     while let Some(word) = text.next(rt, b"judge_rule") {

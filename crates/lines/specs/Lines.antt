@@ -1,6 +1,6 @@
 -- The lines of refusals: document 01, "A refusal prints only REFUSED, number and place in decimal".
 use Rattle.std.specs.Prelude.{ℕ, Bool, true, false, List, ◌++◌}
-use Rattle.words.specs.Paper.{number_of, refusal}
+use Rattle.words.specs.Paper.{number_of, port_number, refusal}
 use Rattle.words.specs.declared.Refusal.{Refusal}
 use Rattle.words.specs.declared.Witness.{Witness}
 use Rattle.bits.specs.Bits.{num}
@@ -36,7 +36,7 @@ refused_file_line r mapping = refusal_text r ++ file_name mapping
 
 unfoldable pub witness_text : Witness → List ℕ
 witness_text v =
-    labelled (bytes " PORT ") v.port
+    labelled (bytes " PORT ") (port_number v.port)
     ++ labelled (bytes " LEFT ") v.left
     ++ labelled (bytes " RIGHT ") v.right
     ++ labelled (bytes " CARRY ") (num v.carry)

@@ -52,7 +52,7 @@ pub fn put_witness(witness: Witness, line: &mut Text)
     ensures short { length line.new ≤ length line.old + L.most_witness_bytes }
     ensures text { line.new ≡ line.old ++ L.witness_text witness }
 {
-    line.put_labelled(b" PORT ", witness.port as u64);
+    line.put_labelled(b" PORT ", u32::from(witness.port) as u64);
     line.put_labelled(b" LEFT ", witness.left);
     line.put_labelled(b" RIGHT ", witness.right);
     line.put_labelled(b" CARRY ", witness.carry as u64);

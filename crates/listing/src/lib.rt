@@ -44,6 +44,7 @@ pub fn glue_line(count: u32, text: &mut Text)
 }
 
 // The bindings of a mapping's words, a line each, and the glue count.
+#[tactic(auto, using(std::proofs::lemmas::List::append_assoc, crate::proofs::Mapped::mapped_next, crate::proofs::Mapped::mapped_last, crate::proofs::Mapped::nothing_put))]
 pub fn put_mapping(words: &[u32], text: &mut Text)
     requires { length text.old + L.most_binding_bytes * length words.now + L.most_glue_bytes ≤ room }
     ensures short { length text.new ≤ length text.old + L.most_binding_bytes * length words.now + L.most_glue_bytes }

@@ -10,14 +10,15 @@ use Rattle.words.specs.Paper.{refusal}
 use Rattle.words.specs.declared.Refusal.{Refusal}
 use Rattle.words.proofs.Choices.{either}
 use Rattle.reader.specs.Job.{job_of}
-use Rattle.std.specs.Prelude.{Result, Ok, Err}
+use Rattle.std.specs.Prelude.{Option, Some, None, Result, Ok, Err}
 use Rattle.reader.specs.declared.Job.{Job}
 use Rattle.writer.specs.Write.{words_needed, written_of}
 use Rattle.input.specs.declared.Input.{Input}
+use Rattle.input.specs.Read.{cut_at}
 use Rattle.mapper.specs.Mapping.{choice_of, answer_to, answer_for, answer_of}
-use Rattle.map_answers.specs.Answers.{words_written, job_answer}
+use Rattle.map_answers.specs.Answers.{words_written, answer_at, job_answer}
 use Rattle.map_answers.specs.Asked.{Room, RoomFor}
-use Rattle.words.specs.declared.Fault.TheVariants.{OutOfSequence, TooFewWords}
+use Rattle.words.specs.declared.Fault.TheVariants.{TooFewWords}
 
 -- ---- no more words are written than were lent
 
@@ -40,19 +41,20 @@ answer_within : (ws lent : List ℕ) → words_written (answer_of ws lent) ≤ l
 unfolding answer_of
 answer_within ws lent = read_within ws (job_of ws) lent
 
-job_within : (job : List ℕ) (input : Input) (lent : List ℕ) → words_written (job_answer job input lent) ≤ length lent
-unfolding job_answer
-job_within job input lent =
-    either (λ (a : Result ℕ Refusal). words_written a ≤ length lent) input.cut
-    {x = Err (refusal OutOfSequence input.whole)} {y = answer_of job lent}
-    (λ _. omega arith) (λ _. answer_within job lent)
+answer_at_within : (cut : Option ℕ) (job lent : List ℕ) → words_written (answer_at cut job lent) ≤ length lent
+answer_at_within (Some place) job lent = omega arith
+answer_at_within None job lent = answer_within job lent
 
-pub room_for : (job lent after text : List ℕ) (input : Input) (a : Result ℕ Refusal) → a ≡ job_answer job input lent → length after ≡ length lent
+job_within : (input : Input) (lent : List ℕ) → words_written (job_answer input lent) ≤ length lent
+unfolding job_answer
+job_within input lent = answer_at_within (cut_at input) input.words lent
+
+pub room_for : (lent after text : List ℕ) (input : Input) (a : Result ℕ Refusal) → a ≡ job_answer input lent → length after ≡ length lent
     → Room lent text → RoomFor a after text
-room_for job lent after text input a e l h =
+room_for lent after text input a e l h =
     record {
       enough = omega arith;
       within =
           subst (λ (x : Result ℕ Refusal). words_written x ≤ length after) (sym e)
-          (subst (λ (n : ℕ). words_written (job_answer job input lent) ≤ n) (sym l) (job_within job input lent));
+          (subst (λ (n : ℕ). words_written (job_answer input lent) ≤ n) (sym l) (job_within input lent));
     }

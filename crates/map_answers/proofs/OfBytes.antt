@@ -2,34 +2,26 @@
 -- have is kept, which is refusal 1 as for all its words.
 use mathlib.Core.Path.{◌≡◌, refl, sym, ap, subst, ◌∙◌}
 use mathlib.Core.Bool.{Bool, true, false, not}
-use mathlib.Core.List.{List, [], ◌∷◌, ◌++◌}
-use Prim.Native.Nat.{ℕ, ◌/◌, ◌%◌, ◌≤◌, ◌<◌}
+use mathlib.Core.List.{List, ◌++◌}
+use Prim.Native.Nat.{ℕ, ◌/◌, ◌%◌, ◌<◌}
 use native.Mathlib.Omega.{arith}
 use borrow.Author.Tests.{ltb-true, ltb-false, lt-ltb, le-ltb}
 use lib.Dec.{eqb, ltb}
 use lib.ListN.{length, take, length-take}
 use lib.Seq.{take_all}
-use Rattle.std.specs.Prelude.{if◌then◌else◌, Ok, Err}
+use Rattle.std.specs.Prelude.{if◌then◌else◌, Some, None, Ok, Err}
 use Rattle.words.specs.Paper.{refusal}
 use Rattle.sequence.specs.Limits.{most_job_words}
 use Rattle.files.specs.Files.{words_of}
 use Rattle.reader.specs.Words.{words_read}
 use Rattle.reader.specs.Job.{job_of}
-use Rattle.input.specs.Read.{kept_words, kept_bytes, input_of, ReadToEnd}
+use Rattle.input.specs.Read.{kept_bytes, input_of, ReadToEnd}
 use Rattle.input.specs.declared.Input.{Input}
-use Rattle.input.proofs.Chunks.{least_is, start_kept}
+use Rattle.input.proofs.Chunks.{words_length}
 use Rattle.mapper.specs.Mapping.{answer_of, lent_after_map}
-use Rattle.map_answers.specs.Answers.{map_text, job_answer, job_lent, SaysMapped}
+use Rattle.map_answers.specs.Answers.{map_text, answer_at, job_answer, lent_at, job_lent, SaysMapped}
 use Rattle.map_answers.specs.Bytes.{job_text}
 use Rattle.words.specs.declared.Fault.TheVariants.{BadLength, OutOfSequence}
-
-words_length : (file : List ℕ) → length (words_of file) ≡ length file / 4
-unfolding words_of
-words_length [] = refl
-words_length (a ∷ []) = refl
-words_length (a ∷ b ∷ []) = refl
-words_length (a ∷ b ∷ c ∷ []) = refl
-words_length (a ∷ b ∷ c ∷ d ∷ file) = omega (arith, words_length file)
 
 -- the text for words that were read whole
 words_text : List ℕ → List ℕ → List ℕ
@@ -53,35 +45,22 @@ kept_enough file lent true e =
     ∙ sym (too_long_text (words_of file) lent (omega (arith, words_length file)))
 
 -- the text for what was kept of a file that was read to its end
-pub says_of_the_bytes : (file lent : List ℕ)
-    → map_text (job_answer (words_of (take kept_bytes file)) (input_of (length file)) lent) (job_lent (words_of (take kept_bytes file)) (input_of (length file)) lent)
-    ≡ job_text file lent
+pub says_of_the_bytes : (file lent : List ℕ) → map_text (job_answer (input_of file) lent) (job_lent (input_of file) lent) ≡ job_text file lent
 unfolding job_answer job_lent job_text words_text
-says_of_the_bytes file lent = by_rest (not (eqb (length file % 4) 0))
+says_of_the_bytes file lent = by_rest (eqb (length file % 4) 0)
   where
-    by_rest : (cut : Bool)
-        → map_text (if cut then Err (refusal OutOfSequence (length file / 4)) else answer_of (words_of (take kept_bytes file)) lent)
-        (if cut then lent else lent_after_map (words_of (take kept_bytes file)) lent)
-        ≡ (if cut then map_text (Err (refusal OutOfSequence (length file / 4))) lent else words_text (words_of file) lent)
-    by_rest true = refl
-    by_rest false = kept_enough file lent (ltb kept_bytes (length file)) refl
+    by_rest : (whole : Bool)
+        → map_text (answer_at (if whole then None else Some (length file / 4)) (words_of (take kept_bytes file)) lent)
+        (lent_at (if whole then None else Some (length file / 4)) (words_of (take kept_bytes file)) lent)
+        ≡ (if not whole then map_text (Err (refusal OutOfSequence (length file / 4))) lent else words_text (words_of file) lent)
+    by_rest false = refl
+    by_rest true = kept_enough file lent (ltb kept_bytes (length file)) refl
 
--- ---- what map_job prints: the words that were read of a file, the start of them that was kept, and what is said of these
+-- ---- what map_job prints for an input that was read to its end
 
-module _ (words read : List ℕ) (input : Input) (k : ReadToEnd words read input) (h : kept_words ≤ length words) where
-  kept_of : take input.kept read ≡ words_of (take kept_bytes k.file)
-  kept_of =
-      let start = take kept_bytes k.file in
-      let size : input.kept ≡ length (words_of start) =
-      ap (λ (i : Input). i.kept) k.same ∙ ap (λ (n : ℕ). n / 4) (least_is k.file kept_bytes) ∙ sym (words_length start)
-      in
-      ap (λ (n : ℕ). take n read) size ∙ ap (λ (l : List ℕ). take (length (words_of start)) l) k.kept
-      ∙ start_kept (words_of start) words (omega (arith, words_length start, length-take kept_bytes k.file))
-
-  pub prints_for_the_bytes : (lent lent_after old new : List ℕ) (count : ℕ)
-      → SaysMapped (take input.kept read) (Ok input) lent lent_after old new (Ok count) → new ≡ old ++ job_text k.file lent
-  prints_for_the_bytes lent lent_after old new count s =
-      let p : SaysMapped (words_of (take kept_bytes k.file)) (Ok (input_of (length k.file))) lent lent_after old new (Ok count) =
-      subst (λ (i : Input). SaysMapped (words_of (take kept_bytes k.file)) (Ok i) lent lent_after old new (Ok count)) k.same
-      (subst (λ (l : List ℕ). SaysMapped l (Ok input) lent lent_after old new (Ok count)) kept_of s)
-      in p.1.text ∙ ap (λ (t : List ℕ). old ++ t) (says_of_the_bytes k.file lent)
+pub prints_for_the_bytes : (input : Input) (k : ReadToEnd input) (lent lent_after old new : List ℕ) (count : ℕ)
+    → SaysMapped (Ok input) lent lent_after old new (Ok count) → new ≡ old ++ job_text k.file lent
+prints_for_the_bytes input k lent lent_after old new count s =
+    let p : SaysMapped (Ok (input_of k.file)) lent lent_after old new (Ok count) =
+    subst (λ (i : Input). SaysMapped (Ok i) lent lent_after old new (Ok count)) k.same s
+    in p.1.text ∙ ap (λ (t : List ℕ). old ++ t) (says_of_the_bytes k.file lent)

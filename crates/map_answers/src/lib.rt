@@ -12,17 +12,17 @@ use words::{Fault, Refusal};
 
 // The answer to a job that was read: a last word cut short comes before all else.
 #[tactic(auto, unfolding(crate::specs::Answers::job_answer, crate::specs::Answers::job_lent))]
-fn map_file(job: &[u32], input: Input, lent: &mut [u32]) -> Result<usize, Refusal>
-    ensures answer { result ≡ S.job_answer job.now input lent.old }
-    ensures written { lent.new ≡ S.job_lent job.now input lent.old }
+fn map_file(input: &Input, lent: &mut [u32]) -> Result<usize, Refusal>
+    ensures answer { result ≡ S.job_answer input.now lent.old }
+    ensures written { lent.new ≡ S.job_lent input.now lent.old }
 {
-    if input.cut {
-        return Err(Refusal {
+    match input.cut_at() {
+        Some(place) => Err(Refusal {
             fault: Fault::OutOfSequence,
-            place: input.whole,
-        });
+            place,
+        }),
+        None => mapper::map(input.words(), lent),
     }
-    mapper::map(job, lent)
 }
 
 // The text of the mapper's answer, with the words that it wrote; and how many they are.
@@ -43,19 +43,18 @@ fn put_answer(answer: Result<usize, Refusal>, lent: &[u32], text: &mut Text) -> 
     }
 }
 
-// What map_job says of its input: the words that were kept of it, and what was read, if it could be. The mapping is written into lent words,
-// and how many were written is answered.
+// What map_job says of its input, if it could be read. The mapping is written into lent words, and how many were written is answered.
+#[tactic(auto, using(crate::proofs::Mapped::room_for))]
 pub fn map_input(
-    job: &[u32],
     input: Result<Input, Failed>,
     lent: &mut [u32],
     text: &mut Text,
 ) -> Result<usize, Failed>
     requires { Q.Room lent.old text.old }
     ensures fits { IfOk result (λ words. words ≤ length lent.old) }
-    ensures said { S.SaysMapped job.now input lent.old lent.new text.old text.new result }
+    ensures said { S.SaysMapped input lent.old lent.new text.old text.new result }
 {
     let input = input?;
-    let answer = map_file(job, input, lent);
+    let answer = map_file(&input, lent);
     Ok(put_answer(answer, lent, text))
 }

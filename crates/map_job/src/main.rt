@@ -7,12 +7,11 @@ use text::Text;
 
 // Maps the job, and saves a mapping that was written, if a file is named for it.
 fn map(rt: &HostRuntime) {
-    let mut job = [0u32; input::KEPT_WORDS];
-    let input = input::read_words(rt, &mut rt.stdin(), b"standard input", &mut job);
-    let kept = input::kept(input);
+    let input = input::read_words(rt, &mut rt.stdin(), b"standard input");
+    // Kept: lent words and how many were written, as document 01 has a mapping written.
     let mut lent = [0u32; MOST_MAPPING_WORDS];
     let mut text = Text::new();
-    let Ok(count) = map_answers::map_input(&job[..kept], input, &mut lent, &mut text) else {
+    let Ok(count) = map_answers::map_input(input, &mut lent, &mut text) else {
         return;
     };
     console::print(rt, text.as_bytes());

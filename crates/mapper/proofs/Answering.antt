@@ -12,7 +12,7 @@ use Rattle.words.specs.declared.Refusal.{Refusal}
 use Rattle.book.specs.Book.{book}
 use Rattle.sequence.specs.Limits.{most_sources, most_rules}
 use Rattle.reader.specs.Starts.{sources_start, rules_start}
-use Rattle.reader.specs.Job.{job_of, WellFormedJob}
+use Rattle.reader.specs.Job.{WellFormedJob}
 use Rattle.reader.specs.declared.Job.{Job}
 use Rattle.std.specs.Prelude.{Result, Ok, Err}
 use Rattle.wellformed.proofs.JobWords.{JobFacts, well_formed}
@@ -21,10 +21,10 @@ use Rattle.glue.specs.Glue.{glue}
 use Rattle.tally.specs.Parts.{set_count}
 use Rattle.tally.proofs.Joining.{price_is_glue}
 use Rattle.writer.specs.Asked.{Writable}
-use Rattle.writer.specs.Write.{mapping_words, written_of, lent_after}
+use Rattle.writer.specs.Write.{written_of, lent_after}
 use Rattle.choice.specs.Choose.{choose}
 use Rattle.choice.specs.Chosen.{KeptChoice, WritableChoice, kept_as}
-use Rattle.mapper.specs.Mapping.{book_of, choice_of, chosen_words, answer_to, answer_for, answer_of, lent_to, lent_for, lent_after_map}
+use Rattle.mapper.specs.Mapping.{book_of, choice_of, chosen_words, answer_to, lent_to}
 use Rattle.choice.specs.declared.Chosen.{Chosen}
 use Rattle.words.specs.declared.Fault.TheVariants.{Unmappable}
 
@@ -85,19 +85,10 @@ module _ (job : Job) (c : Chosen) (b : WritableChoice job c) where
       record { width_fits = b.width.most; glue_fits = omega arith; few_bound = omega (arith, bound_length, b.few) }
 
   module _ (count : ℕ) (ec : (count ≡ set_count job.width job.prices c.used) × (count ≤ 612000)) where
-    count_is : count ≡ glue job.width job.prices (take job.sources c.words)
+    pub count_is : count ≡ glue job.width job.prices (take job.sources c.words)
     count_is =
         ec.0 ∙ ap (set_count job.width job.prices) b.uses
         ∙ price_is_glue job.width job.prices (take job.sources c.words)
-
-    pub chosen_written : (lent after : List ℕ)
-        → after ≡ lent_after (mapping_words job.width (take job.sources c.words) count) lent
-        → after ≡ lent_after (chosen_words job (take job.sources c.words)) lent
-    chosen_written lent after ea =
-        ea ∙ ap (λ (x : ℕ). lent_after (mapping_words job.width (take job.sources c.words) x) lent) count_is
-
-  pub chosen_answer : (r : Result ℕ Refusal) (lent : List ℕ) → r ≡ written_of (length (take job.sources c.words)) lent → r ≡ written_of job.sources lent
-  chosen_answer r lent er = er ∙ ap (λ (x : ℕ). written_of x lent) (sym bound_length)
 
 -- ---- the answer
 
@@ -128,26 +119,3 @@ module _ (ws : List ℕ) (job : Job) (e : WellFormedJob ws job) (d : Result Chos
 
     pub mapped_answer : (r : Result ℕ Refusal) → r ≡ written_of job.sources lent → r ≡ answer_to (choice_of ws job) lent
     mapped_answer r er = er ∙ ap (λ (x : ℕ). written_of x lent) (bound_length job c ready) ∙ sym answered
-
--- ---- the job's own refusals
-
-module _ (ws : List ℕ) (r : Result Job Refusal) (er : r ≡ job_of ws) (lent : List ℕ) where
-  pub job_refused : (x : Refusal) → r ≡ Err x → Err x ≡ answer_of ws lent
-  unfolding answer_of
-  job_refused x u = rw (sym er ∙ u) refl
-
-  pub job_refused_lent : (x : Refusal) → r ≡ Err x → lent ≡ lent_after_map ws lent
-  unfolding lent_after_map
-  job_refused_lent x u = rw (sym er ∙ u) refl
-
-  module _ (job : Job) (u : r ≡ Ok job) where
-    pub job_read : WellFormedJob ws job
-    job_read = sym er ∙ u
-
-    pub job_answered : (a : Result ℕ Refusal) → a ≡ answer_to (choice_of ws job) lent → a ≡ answer_of ws lent
-    unfolding answer_of
-    job_answered a ea = ea ∙ sym (ap (λ (x : Result Job Refusal). answer_for ws x lent) (sym er ∙ u))
-
-    pub job_lent_lem : (after : List ℕ) → after ≡ lent_to job (choice_of ws job) lent → after ≡ lent_after_map ws lent
-    unfolding lent_after_map
-    job_lent_lem after ea = ea ∙ sym (ap (λ (x : Result Job Refusal). lent_for ws x lent) (sym er ∙ u))

@@ -1,14 +1,13 @@
 // The mapper beside the second account of it, on random jobs.
 use crate::jobs::BOOK_BIT;
-use crate::random::{SHAPES, Shape, put_job};
-use crate::show::LENT;
+use crate::random::{SHAPES, Shape, job_of};
 use book::BOOK;
 use reference::answer::{Refusal, Subject, refused};
 use reference::trial::next;
 use rulings::choosing::map;
 use testing::say;
 use testing::tally::{Numbers, no_numbers, noted};
-use testing::words::{after, at, first, put};
+use testing::words::{LENT, at, lent_holds};
 
 // A series of random jobs: eight widths, how many jobs of each shape, and the bits of the header that are set besides the width.
 struct Series {
@@ -55,10 +54,10 @@ const SERIES: [Series; 4] = [
     },
 ];
 
-// The number of the mapper's refusal, 0 for none, and whether the second account answers and writes the same.
+// The number of the mapper's refusal, and whether the second account answers and writes the same.
 #[derive(Clone, Copy)]
 struct Outcome {
-    number: u32,
+    number: Option<u32>,
     same: bool,
 }
 
@@ -69,23 +68,17 @@ fn of_answer(answer: Result<usize, words::Refusal>) -> Result<usize, Refusal> {
     }
 }
 
-// Whether lent words hold the mapping, and past it, or refused from the first on, what they held before.
-fn holds(lent: &[u32], mapping: &[u32]) -> bool {
-    let size = mapping.len();
-    first(lent, size) == mapping && after(lent, size).iter().all(|word| *word == LENT)
-}
-
 // A job mapped into lent words.
 fn outcome_in(job: &[u32], lent: &mut [u32]) -> Outcome {
     let told = of_answer(mapper::map(job, lent));
     let same = match map(job, &BOOK, lent.len()) {
-        Ok(mapped) => { (told == Ok(mapped.size)) & holds(lent, first(&mapped.words, mapped.size)) }
-        Err(refusal) => (told == Err(refusal)) & holds(lent, &[]),
+        Ok(mapping) => {
+            let words = mapping.written();
+            (told == Ok(words.len())) & lent_holds(lent, words)
+        }
+        Err(refusal) => (told == Err(refusal)) & lent_holds(lent, &[]),
     };
-    let number = match told {
-        Ok(_) => 0,
-        Err(refusal) => refusal.number,
-    };
+    let number = told.err().map(|refusal| refusal.number);
     Outcome { number, same }
 }
 
@@ -95,27 +88,26 @@ fn outcome_of(job: &[u32], size: usize) -> Outcome {
     outcome_in(job, &mut lent[..size.min(32)])
 }
 
-// A job more. The first that differs is written out. The numbers 0, 1 to 6, 12 and 23 count as 0, 1, 2 and 4.
+// A job more. The first that differs is written out. The numbers 1 to 6, 12 and 23 count as 1, 2 and 4.
 fn counted(rt: &HostRuntime, all: Numbers, job: &[u32], outcome: Outcome) -> Numbers {
     let tally = all.tally;
     if !outcome.same & (tally.differ == 0) {
         say::words(rt, b"differs:", job);
         say::text(rt, b"\n");
     }
-    noted(all, (outcome.number % 32 + 5) / 6, outcome.same)
+    let number = outcome.number.map(|number| (number % 32 + 5) / 6);
+    noted(all, number, outcome.same)
 }
 
 // The random jobs of a shape in a series. Half of them are lent more words than any mapping needs.
 fn random_jobs(rt: &HostRuntime, series: &Series, shape: Shape, count: u32) -> Numbers {
     let widths = series.widths;
-    let mut words = [0u32; 569];
     let mut all = no_numbers();
     let mut random = next(0x9e37_79b9_7f4a_7c15 ^ (shape as u64) ^ ((at(&widths, 0) as u64) << 8));
     for i in 0..count {
         let n = widths[(i % 8) as usize];
-        let size = put_job(&mut words, shape, n, random);
-        put(&mut words, 0, 0x1000_0000 | n | series.asked);
-        let job = first(&words, size);
+        let words = job_of(shape, n, series.asked, random);
+        let job = words.written();
         all = counted(rt, all, job, outcome_of(job, (random % 64) as usize));
         random = next(random);
     }
@@ -127,10 +119,9 @@ fn report_shape(rt: &HostRuntime, name: &[u8], shape: &[u8], all: Numbers) {
     let by = all.by;
     say::text(rt, name);
     say::text(rt, shape);
-    say::line(
-        rt,
-        b": # jobs, # mapped, # refused 12, # refused 23, # refused 1 to 6, # differ\n",
-        &[tally.compared, by[0], by[2], by[4], by[1], tally.differ],
+    let _ = println!(rt;
+        ": {} jobs, {} mapped, {} refused 12, {} refused 23, {} refused 1 to 6, {} differ",
+        tally.compared, by[0], by[2], by[4], by[1], tally.differ
     );
 }
 

@@ -4,7 +4,10 @@ use reference::recipe::fields_of;
 use reference::trial::next;
 use rulings::known::known_rules;
 use std::num::{wrapping_add_usize, wrapping_sub_usize};
-use testing::words::{at, content, put, word_of};
+use testing::words::{Words, at, content, word_of};
+
+// No job of these has more words; the largest has a rule too many.
+pub type JobWords = Words<569>;
 
 // What a job is like. The seed of its jobs is its place among these.
 #[derive(Clone, Copy, PartialEq, Eq)]
@@ -31,12 +34,12 @@ const PRICES: [u32; 8] = [
     0x00_00_01, 0x00_00_FF, 0x00_FF_00, 0xFF_00_00, 0xFF_FF_00, 0x01_00_FF, 0xFF_FF_FF, 0x01_01_03,
 ];
 
+// The set of all functions, by bits.
+const ALL_FUNCTIONS: u64 = 0xFFFF_FFFF;
+
 // A number below another, 0 where there is none.
 fn below(x: u64, end: usize) -> usize {
-    if end == 0 {
-        return 0;
-    }
-    (x % 0x1_0000_0000) as usize % end
+    ((x % 0x1_0000_0000) as usize).checked_rem(end).unwrap_or(0)
 }
 
 // A recipe with another vector; or with a wiring or the carry in drawn anew.
@@ -63,27 +66,30 @@ fn rule_from(x: u64, source: u32, n: u32) -> u32 {
     rule
 }
 
-// A set of functions, by bits: none, a quarter, three quarters or all of them.
-fn set_from(x: u64, amount: u64) -> u64 {
-    match amount {
+// A set of a quarter of the functions, by bits.
+fn a_quarter(x: u64) -> u64 {
+    x & (x >> 28)
+}
+
+// None of the functions, a quarter, three quarters or all of them.
+fn set_from(x: u64) -> u64 {
+    match x >> 61 {
         0 => 0,
-        1 => x & (x >> 28),
+        1 => a_quarter(x),
         2..=4 => x | (x >> 28),
-        _ => 0xFFFF_FFFF,
+        _ => ALL_FUNCTIONS,
     }
 }
 
-// Words of a kind for the functions of a set, from an index on; the index after them.
-fn put_table(words: &mut [u32], from: usize, kind: u32, set: u64) -> usize {
+// Words of a kind for the functions of a set.
+fn push_table(words: &mut JobWords, kind: u32, set: u64) {
     let mut rest = set;
-    let mut end = from;
     for function in 1..28 {
-        // Where it is not in the set, the next word stands in its place.
-        put(words, end, word_of(kind, function));
-        end = wrapping_add_usize(end, (rest % 2) as usize);
+        if rest % 2 == 1 {
+            words.push(word_of(kind, function));
+        }
         rest = rest / 2;
     }
-    end
 }
 
 // The function of a job's source, in turn.
@@ -91,12 +97,13 @@ fn source_at(words: &[u32], sources: usize, i: usize) -> u32 {
     content(at(words, wrapping_add_usize(below(i as u64, sources), 2)))
 }
 
-// Rules from an index on to before another.
-fn put_rules(words: &mut [u32], from: usize, end: usize, sources: usize, n: u32, random: u64) {
+// So many rules.
+fn push_rules(words: &mut JobWords, count: usize, sources: usize, n: u32, random: u64) {
     let mut x = random;
-    for i in from..end {
-        let rule = rule_from(x, source_at(words, sources, i), n);
-        put(words, i, rule);
+    for _ in 0..count {
+        let before = words.written();
+        let source = source_at(before, sources, before.len());
+        words.push(rule_from(x, source, n));
         x = next(x);
     }
 }
@@ -124,30 +131,43 @@ fn prices_from(shape: Shape, x: u64) -> u32 {
 }
 
 // Turns a bit of one of so many words, but not of the header, where b.
-fn turn_bit(words: &mut [u32], end: usize, b: bool, x: u64) {
+fn turn_bit(words: &mut JobWords, end: usize, b: bool, x: u64) {
     let place = wrapping_add_usize(below(x / 32, wrapping_sub_usize(end, 1)), 1);
-    let word = at(words, place) ^ ((b as u32) << (x % 32));
-    put(words, place, word);
+    let word = at(words.written(), place) ^ ((b as u32) << (x % 32));
+    words.put(place, word);
 }
 
-// Header, prices and sources, of which there is one at least; the index after them.
-fn put_sources(words: &mut [u32], shape: Shape, n: u32, x: u64) -> usize {
-    put(words, 0, 0x1000_0000 | n);
-    put(words, 1, 0x2000_0000 | prices_from(shape, next(x)));
-    let amount = if shape == Shape::AllSources { 5 } else { 1 };
-    put_table(words, 2, 3, set_from(x, amount) | (1u64 << (x % 27)))
+// Header, prices and sources, of which there is one at least.
+fn begun(shape: Shape, header: u32, x: u64) -> JobWords {
+    let mut words = Words::empty();
+    words.push(header);
+    words.push(0x2000_0000 | prices_from(shape, next(x)));
+    let set = if shape == Shape::AllSources {
+        ALL_FUNCTIONS
+    } else {
+        a_quarter(x) | (1u64 << (x % 27))
+    };
+    push_table(&mut words, 3, set);
+    words
 }
 
-// A job of a shape at a width; how many words it has. Above width 4 a turned bit is none of the rules', whose rightness is known.
-pub fn put_job(words: &mut [u32], shape: Shape, n: u32, random: u64) -> usize {
-    let targets = put_sources(words, shape, n, next(random));
-    let sources = wrapping_sub_usize(targets, 2);
-    let rules = put_table(words, targets, 4, set_from(random, random >> 61));
+// A job of a shape at a width, and the bits of its header that are set besides. Above width 4 a turned bit is none of the rules',
+// whose rightness is known.
+pub fn job_of(shape: Shape, n: u32, asked: u32, random: u64) -> JobWords {
+    let mut words = begun(shape, 0x1000_0000 | n | asked, next(random));
+    let sources = wrapping_sub_usize(words.written().len(), 2);
+    push_table(&mut words, 4, set_from(random));
+    let rules = words.written().len();
     // Another sequence than the one from which the jobs after this one come.
     let x = next(random ^ 0x5555_5555_5555_5555);
-    let size = wrapping_add_usize(rules, rule_count(shape, sources, x));
-    put_rules(words, rules, size, sources, n, next(x));
-    let end = if n < 5 { size } else { rules };
-    turn_bit(words, end, shape == Shape::BitTurned, x);
-    size
+    push_rules(
+        &mut words,
+        rule_count(shape, sources, x),
+        sources,
+        n,
+        next(x),
+    );
+    let end = if n < 5 { words.written().len() } else { rules };
+    turn_bit(&mut words, end, shape == Shape::BitTurned, x);
+    words
 }

@@ -1,9 +1,7 @@
 // What the mapper answers, and the lent words afterwards.
 use testing::say;
+use testing::words::LENT;
 use words::Refusal;
-
-// What a lent word holds before.
-pub const LENT: u32 = 0xEEEEEEEE;
 
 // Eight capital hexadecimal digits, or that the word was not touched.
 fn say_word(rt: &HostRuntime, word: u32) {
@@ -23,12 +21,10 @@ fn say_words(rt: &HostRuntime, words: &[u32]) {
 fn say_answer(rt: &HostRuntime, answer: Result<usize, Refusal>) {
     match answer {
         Ok(n) => {
-            say::count(rt, b": mapping of ", n as u64);
-            say::text(rt, b" words");
+            let _ = print!(rt; ": mapping of {n} words");
         }
         Err(refusal) => {
-            say::count(rt, b": refused ", u32::from(refusal.fault) as u64);
-            say::count(rt, b" ", refusal.place as u64);
+            let _ = print!(rt; ": refused {} {}", u32::from(refusal.fault), refusal.place);
         }
     }
 }

@@ -2,12 +2,12 @@
 #![tactic(auto)]
 
 ghost use Rattle.std.specs.Prelude.{◌≡◌, ◌≤◌, length};
-ghost use Rattle.reader.specs.Job as J;
 ghost use Rattle.opening.specs.Opening as O;
 
 use reader::Job;
 use sequence::{MOST_SOURCES, MOST_TARGETS};
 use soundness::{NOTHING, Tables};
+use table::JobWords;
 use words::Prices;
 
 // What a job of zeros would be.
@@ -46,6 +46,7 @@ pub fn tables_of_zeros() -> Tables
 }
 
 // A table of these words, with NOTHING past them.
+#[tactic(auto, using(crate::proofs::Copying::table_filled))]
 fn table_of<const ENTRIES: usize>(words: &[u32]) -> [u32; ENTRIES]
     requires { length words.now ≤ ENTRIES }
     ensures { result ≡ O.table_of ENTRIES words.now }
@@ -56,12 +57,12 @@ fn table_of<const ENTRIES: usize>(words: &[u32]) -> [u32; ENTRIES]
 }
 
 // The tables of a job that was read.
-pub fn tables_of(words: &[u32], job: Job) -> Tables
-    requires { J.WellFormedJob words.now job }
-    ensures { result ≡ O.tables_in words.now job }
+#[tactic(auto, using(crate::proofs::Opened::few_sources, crate::proofs::Opened::few_targets, crate::proofs::Opened::job_tables))]
+pub fn tables_of(read: &JobWords) -> Tables
+    ensures { result ≡ O.tables_in read.now.words.now read.now.job }
 {
-    let terms = table::terms_of(words, job);
+    let terms = read.terms();
     let sources: [u32; MOST_SOURCES] = table_of(terms.sources);
     let targets: [u32; MOST_TARGETS] = table_of(terms.targets);
-    tables_with(job, sources, targets)
+    tables_with(read.job, sources, targets)
 }

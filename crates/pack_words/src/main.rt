@@ -9,6 +9,7 @@ fn write_word(rt: &HostRuntime, word: u32) -> bool {
 }
 
 // Writes each word, until the text is over or a word cannot be written.
+#[tactic(auto, unfolding(word_text::specs::Next::Forward))]
 fn pack(rt: &HostRuntime) {
     let mut text = word_text::unread();
     while let Some(word) = text.next(rt, b"pack_words") {

@@ -8,9 +8,10 @@ ghost use Rattle.pricer.specs.Pricing as P;
 
 use fitting::PairError;
 use reader::Mapping;
-use table::Terms;
+use table::{JobWords, Terms};
 
 // The glue count of bindings under the terms of a job.
+#[tactic(auto, using(tally::proofs::Joining::price_is_glue))]
 pub fn glue_of(terms: &Terms, bindings: &[u32]) -> u32
     ensures { result ≡ glue terms.now.width.n terms.now.prices bindings.now }
 {
@@ -27,11 +28,16 @@ fn price_under(terms: &Terms, mapping: Mapping, bindings: &[u32]) -> Result<u32,
 }
 
 // The glue count of a mapping's bindings; or the first refusal, of the job or of the mapping by itself, or of the mapping as the job's.
+#[tactic(auto, using(fitting::proofs::Pairs::job_read, fitting::proofs::Pairs::mapping_read), unfolding(crate::specs::Pricing::pricing_of))]
 pub fn price(job: &[u32], mapping: &[u32]) -> Result<u32, PairError>
     ensures { result ≡ P.pricing_of job.now mapping.now }
 {
     let (facts, bound) = fitting::read_pair(job, mapping)?;
-    let terms = table::terms_of(job, facts);
+    let read = JobWords {
+        words: job,
+        job: facts,
+    };
+    let terms = read.terms();
     let bindings = table::bindings_of(mapping, bound);
     price_under(&terms, bound, bindings)
 }

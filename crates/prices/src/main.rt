@@ -111,8 +111,8 @@ fn total(rt: &HostRuntime, name: &[u8], words: &[u32], n: u64, multiplexer: u64,
         multiplexer,
     };
     if let Some(count) = price(usage::joined(words), costs) {
-        say::count(rt, name, count);
-        say::text(rt, b"\n");
+        say::text(rt, name);
+        let _ = println!(rt; "{count}");
     }
 }
 

@@ -1,24 +1,21 @@
 // Prints the book: a line for each of its rules.
 #![tactic(auto)]
 
-ghost use Rattle.std.specs.Prelude.{◌<◌, length};
-ghost use Rattle.book.specs.Book.{book};
-
+use book::Rule;
 use text::Text;
 
 // Prints the line of a rule, and answers whether it could.
-fn print_rule(rt: &HostRuntime, index: usize) -> bool
-    requires { index < length book }
-{
+fn print_rule(rt: &HostRuntime, rule: Rule) -> bool {
     let mut line = Text::new();
-    book_lines::put_rule(index, &mut line);
+    book_lines::put_rule(rule, &mut line);
     console::print(rt, line.as_bytes())
 }
 
 // Prints the rules in the book's order, until a line cannot be printed.
+#[tactic(auto, unfolding(book::specs::Book::book))]
 fn print_all(rt: &HostRuntime) {
     for index in 0..book::SIZE {
-        if !print_rule(rt, index) {
+        if !print_rule(rt, Rule { index }) {
             return;
         }
     }

@@ -5,27 +5,18 @@ use Prim.Native.Nat.{ℕ, ◌<◌, ◌≤◌}
 use native.Mathlib.Omega.{arith}
 use lib.Dec.{ltb}
 use lib.ListN.{length}
-use borrow.Author.Tests.{lt-ltb, le-ltb, ltb-false}
-use Rattle.std.specs.Prelude.{Result, Ok, Err}
-use Rattle.words.specs.Paper.{refusal}
+use borrow.Author.Tests.{le-ltb, ltb-false}
+use Rattle.std.specs.Prelude.{Result, Ok}
 use Rattle.words.specs.declared.Refusal.{Refusal}
-use Rattle.words.specs.declared.Fault.TheVariants.{BadLength}
 use Rattle.words.proofs.Choices.{either}
 use Rattle.sequence.specs.declared.File.{File}
 use Rattle.sequence.specs.declared.File.TheVariants.{AsJob, AsMapping}
 use Rattle.sequence.specs.declared.State.{State}
 use Rattle.grammar.specs.Reading.{beginning, reading}
+use Rattle.grammar.proofs.Stages.{two_words}
 use Rattle.reader.specs.Words.{most_words, words_read}
 
 module _ (file : File) (ws : List ℕ) where
-  pub no_words : length ws < 1 → Err (refusal BadLength 0) ≡ words_read file ws
-  unfolding words_read
-  no_words h = rw (lt-ltb (length ws) 1 (omega arith)) refl
-
-  pub many_words : most_words file < length ws → Err (refusal BadLength 0) ≡ words_read file ws
-  unfolding words_read
-  many_words h = rw (le-ltb (length ws) 1 (omega arith), lt-ltb (most_words file) (length ws) h) refl
-
   pub some_words : 1 ≤ length ws → length ws ≤ most_words file → words_read file ws ≡ reading file beginning 0 ws
   unfolding words_read
   some_words l h = rw (le-ltb (length ws) 1 l, le-ltb (most_words file) (length ws) h) refl
@@ -44,7 +35,9 @@ module _ (file : File) (ws : List ℕ) where
       (λ a. either Q (ltb (most_words file) (length ws)) (λ _ e. absurd cc)
       (λ b e. record { some = ltb-false (length ws) 1 a; few = ltb-false (most_words file) (length ws) b; read = e }))
 
--- no file has more words than a job may
-pub most_of_all : (file : File) → most_words file ≤ 568
-most_of_all AsJob = omega arith
-most_of_all AsMapping = omega arith
+-- a job with a source has a word of prices, and no mapping is empty
+pub prices_there : (ws : List ℕ) (s : State) → words_read AsJob ws ≡ Ok s → 1 ≤ s.sources → 1 < length ws
+prices_there ws s e h = omega (arith, two_words ws s (were_read AsJob ws s e).read h)
+
+pub some_there : (ws : List ℕ) (s : State) → words_read AsMapping ws ≡ Ok s → 1 ≤ length ws
+some_there ws s e = (were_read AsMapping ws s e).some

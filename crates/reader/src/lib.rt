@@ -72,6 +72,7 @@ fn most_words(file: File) -> usize
 }
 
 // The words of a file one by one: refusal 1, or the first of 2 to 6.
+#[tactic(auto, unfolding(crate::specs::Words::words_read))]
 fn words_read(file: File, words: &[u32]) -> Result<State, Refusal>
     ensures { result ≡ W.words_read file words.now }
 {
@@ -88,6 +89,7 @@ fn words_read(file: File, words: &[u32]) -> Result<State, Refusal>
     scan::read_words(file, words)
 }
 
+#[tactic(auto, using(crate::proofs::Limits::prices_there), unfolding(crate::specs::Job::job_of))]
 pub fn read_job(words: &[u32]) -> Result<Job, Refusal>
     ensures { result ≡ J.job_of words.now }
 {
@@ -111,6 +113,7 @@ fn mapping_facts(header: u32, last: u32, s: State) -> Mapping
     }
 }
 
+#[tactic(auto, using(crate::proofs::Limits::some_there), unfolding(crate::specs::Mapping::mapping_of))]
 pub fn read_mapping(words: &[u32]) -> Result<Mapping, Refusal>
     ensures { result ≡ M.mapping_of words.now }
 {

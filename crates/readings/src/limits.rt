@@ -1,22 +1,24 @@
 // Files just within and just past each limit, and words of which two refusals hold.
 use crate::files::plain;
+use accounts::reading::File;
+use accounts::reading::File::{Job, Mapping};
 use readers::{Said, compare, report};
 use testing::tally::{Numbers, no_numbers};
-use testing::words::{first, put};
 
-// A file: how many sources, or bindings, targets and rules; how many of its words are read, if not all; and what is said of it.
-type File = ([usize; 3], Option<usize>, Said);
+// A file of so many words: how many sources, or bindings, targets and rules; how many words are read, if not just these, with 0 behind
+// them; and what is said of it.
+type Counted = ([usize; 3], Option<usize>, Said);
 
 struct Files {
     name: &'static [u8],
-    of_job: bool,
-    files: &'static [File],
+    file: File,
+    files: &'static [Counted],
 }
 
 const FILES: [Files; 6] = [
     Files {
         name: b"0 and 1, 27 and 28 sources",
-        of_job: true,
+        file: Job,
         files: &[
             ([0, 0, 0], None, Err((2, 2))),
             ([0, 1, 0], None, Err((2, 2))),
@@ -30,7 +32,7 @@ const FILES: [Files; 6] = [
     },
     Files {
         name: b"27 and 28 targets",
-        of_job: true,
+        file: Job,
         files: &[
             ([1, 0, 1], None, Ok(())),
             ([1, 27, 1], None, Ok(())),
@@ -40,7 +42,7 @@ const FILES: [Files; 6] = [
     },
     Files {
         name: b"512 and 513 rules",
-        of_job: true,
+        file: Job,
         files: &[
             ([1, 0, 512], None, Ok(())),
             ([27, 26, 512], None, Ok(())),
@@ -50,7 +52,7 @@ const FILES: [Files; 6] = [
     },
     Files {
         name: b"0, 568 and 569 words of a job",
-        of_job: true,
+        file: Job,
         files: &[
             ([27, 27, 512], None, Ok(())),
             ([27, 27, 513], None, Err((1, 0))),
@@ -61,7 +63,7 @@ const FILES: [Files; 6] = [
     },
     Files {
         name: b"0, 27 and 28 bindings, the glue count last",
-        of_job: false,
+        file: Mapping,
         files: &[
             ([0, 0, 0], Some(2), Ok(())),
             ([27, 0, 0], Some(29), Ok(())),
@@ -75,7 +77,7 @@ const FILES: [Files; 6] = [
     },
     Files {
         name: b"0, 29 and 30 words of a mapping",
-        of_job: false,
+        file: Mapping,
         files: &[
             ([27, 0, 0], Some(30), Err((1, 0))),
             ([28, 0, 0], Some(30), Err((1, 0))),
@@ -85,101 +87,104 @@ const FILES: [Files; 6] = [
     },
 ];
 
-// A file with one word set to another: whether it is a job, the place, the number with which it is refused, and the word.
-type Change = (bool, usize, Option<u32>, u32);
+// A file with one word set to another: which file, the place, the number with which it is refused, and the word.
+type Change = (File, usize, Option<u32>, u32);
 
 // In the last of them two refusals hold of each word: the lower number is given.
 const CHANGES: [(&[u8], &[Change]); 5] = [
     (
         b"widths",
         &[
-            (true, 0, None, 0x1000_0001),
-            (true, 0, None, 0x1000_0040),
-            (true, 0, Some(3), 0x1000_0000),
-            (true, 0, Some(3), 0x1000_0041),
-            (true, 0, None, 0x1000_0081),
-            (true, 0, None, 0x1000_0090),
-            (true, 0, None, 0x1000_00c0),
-            (true, 0, Some(3), 0x1000_0080),
-            (true, 0, Some(3), 0x1000_00c1),
-            (true, 0, Some(3), 0x1000_0110),
-            (true, 0, Some(3), 0x1800_0010),
-            (false, 0, None, 0x1000_0001),
-            (false, 0, None, 0x1000_0040),
-            (false, 0, Some(3), 0x1000_0000),
-            (false, 0, Some(3), 0x1000_0041),
-            (false, 0, Some(3), 0x1000_0080),
-            (false, 0, Some(3), 0x1000_0090),
-            (false, 0, Some(3), 0x1000_00c1),
-            (false, 0, Some(3), 0x1000_0110),
-            (false, 0, Some(3), 0x1800_0010),
+            (Job, 0, None, 0x1000_0001),
+            (Job, 0, None, 0x1000_0040),
+            (Job, 0, Some(3), 0x1000_0000),
+            (Job, 0, Some(3), 0x1000_0041),
+            (Job, 0, None, 0x1000_0081),
+            (Job, 0, None, 0x1000_0090),
+            (Job, 0, None, 0x1000_00c0),
+            (Job, 0, Some(3), 0x1000_0080),
+            (Job, 0, Some(3), 0x1000_00c1),
+            (Job, 0, Some(3), 0x1000_0110),
+            (Job, 0, Some(3), 0x1800_0010),
+            (Mapping, 0, None, 0x1000_0001),
+            (Mapping, 0, None, 0x1000_0040),
+            (Mapping, 0, Some(3), 0x1000_0000),
+            (Mapping, 0, Some(3), 0x1000_0041),
+            (Mapping, 0, Some(3), 0x1000_0080),
+            (Mapping, 0, Some(3), 0x1000_0090),
+            (Mapping, 0, Some(3), 0x1000_00c1),
+            (Mapping, 0, Some(3), 0x1000_0110),
+            (Mapping, 0, Some(3), 0x1800_0010),
         ],
     ),
     (
         b"prices",
         &[
-            (true, 1, None, 0x2000_0000),
-            (true, 1, None, 0x20ff_ffff),
-            (true, 1, Some(3), 0x2100_0000),
-            (true, 1, Some(3), 0x2800_0000),
+            (Job, 1, None, 0x2000_0000),
+            (Job, 1, None, 0x20ff_ffff),
+            (Job, 1, Some(3), 0x2100_0000),
+            (Job, 1, Some(3), 0x2800_0000),
         ],
     ),
     (
         b"functions",
         &[
-            (true, 4, None, 0x3000_001b),
-            (true, 4, Some(3), 0x3000_001c),
-            (true, 2, Some(3), 0x3000_0000),
-            (true, 5, Some(3), 0x4000_0000),
-            (true, 7, None, 0x4000_001b),
-            (true, 7, Some(3), 0x4000_001c),
-            (true, 4, Some(3), 0x3000_0023),
-            (true, 7, Some(3), 0x4800_0003),
+            (Job, 4, None, 0x3000_001b),
+            (Job, 4, Some(3), 0x3000_001c),
+            (Job, 2, Some(3), 0x3000_0000),
+            (Job, 5, Some(3), 0x4000_0000),
+            (Job, 7, None, 0x4000_001b),
+            (Job, 7, Some(3), 0x4000_001c),
+            (Job, 4, Some(3), 0x3000_0023),
+            (Job, 7, Some(3), 0x4800_0003),
         ],
     ),
     (
         b"glue counts",
-        &[(false, 4, None, 0x7000_0000), (false, 4, None, 0x7fff_ffff)],
+        &[
+            (Mapping, 4, None, 0x7000_0000),
+            (Mapping, 4, None, 0x7fff_ffff),
+        ],
     ),
     (
         b"two refusals of one word",
         &[
-            (true, 6, Some(2), 0x3000_0000),
-            (true, 1, Some(2), 0x1000_0000),
-            (true, 5, Some(4), 0x3000_0001),
-            (false, 2, Some(3), 0x6087_c960),
-            (false, 2, Some(4), 0x6098_0140),
-            (false, 2, Some(4), 0x6084_0000),
-            (false, 2, Some(5), 0x6118_0140),
+            (Job, 6, Some(2), 0x3000_0000),
+            (Job, 1, Some(2), 0x1000_0000),
+            (Job, 5, Some(4), 0x3000_0001),
+            (Mapping, 2, Some(3), 0x6087_c960),
+            (Mapping, 2, Some(4), 0x6098_0140),
+            (Mapping, 2, Some(4), 0x6084_0000),
+            (Mapping, 2, Some(5), 0x6118_0140),
         ],
     ),
 ];
 
-fn with_file(all: Numbers, of_job: bool, file: File) -> Numbers {
-    let (sizes, read, said) = file;
-    let mut words = [0u32; 600];
-    let size = plain(of_job, &mut words, sizes);
-    let n = read.unwrap_or(size);
-    compare(all, of_job, first(&words, n), Some(said))
+fn with_file(all: Numbers, file: File, counted: Counted) -> Numbers {
+    let (sizes, read, said) = counted;
+    let mut words = plain(file, sizes);
+    if let Some(n) = read {
+        words.resize(n);
+    }
+    compare(all, file, words.written(), Some(said))
 }
 
 // In a job of 3 sources, 3 targets and 3 rules, or a mapping of 3 bindings.
 fn with_change(all: Numbers, change: Change) -> Numbers {
-    let (of_job, place, refused, word) = change;
-    let mut words = [0u32; 17];
-    let n = plain(of_job, &mut words, [3, 3, 3]);
-    put(&mut words, place, word);
+    let (file, place, refused, word) = change;
+    let mut words = plain(file, [3, 3, 3]);
+    words.put(place, word);
     let said = match refused {
         Some(number) => Err((number, place)),
         None => Ok(()),
     };
-    compare(all, of_job, first(&words, n), Some(said))
+    compare(all, file, words.written(), Some(said))
 }
 
-fn with_files(of_job: bool, files: &[File]) -> Numbers {
+fn with_files(file: File, files: &[Counted]) -> Numbers {
     let mut all = no_numbers();
-    for file in files {
-        all = with_file(all, of_job, *file);
+    for counted in files {
+        all = with_file(all, file, *counted);
     }
     all
 }
@@ -194,7 +199,7 @@ fn with_changes(changes: &[Change]) -> Numbers {
 
 pub fn report_sizes(rt: &HostRuntime) {
     for group in &FILES {
-        report(rt, group.name, with_files(group.of_job, group.files));
+        report(rt, group.name, with_files(group.file, group.files));
     }
 }
 

@@ -10,6 +10,7 @@ mod limits;
 mod places;
 mod random;
 
+use accounts::reading::File;
 use damage::damaged_files;
 use readers::report;
 
@@ -17,10 +18,14 @@ fn main(rt: HostRuntime) {
     limits::report_sizes(&rt);
     limits::report_words(&rt);
     places::report_places(&rt);
-    report(&rt, b"jobs with random damage", damaged_files(true, 300000));
+    report(
+        &rt,
+        b"jobs with random damage",
+        damaged_files(File::Job, 300000),
+    );
     report(
         &rt,
         b"mappings with random damage",
-        damaged_files(false, 300000),
+        damaged_files(File::Mapping, 300000),
     );
 }

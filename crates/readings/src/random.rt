@@ -1,16 +1,14 @@
 // Random files that both readers accept.
+use crate::files::FileWords;
+use accounts::reading::File;
 use reference::trial::next;
-use std::num::wrapping_add_usize;
-use testing::words::{at, put};
+use testing::words::Words;
 
 // A random number below another; below 0 it is 0.
 pub fn draw(state: &mut u64, below: u32) -> u32 {
     let x = next(*state);
     *state = x;
-    if below == 0 {
-        return 0;
-    }
-    (x >> 32) as u32 % below
+    ((x >> 32) as u32).checked_rem(below).unwrap_or(0)
 }
 
 // A random one of so many numbers from another on.
@@ -87,67 +85,54 @@ pub fn random_word(state: &mut u64, kind: u32, function: u32) -> u32 {
     head | wired(state, function)
 }
 
-// A word of a kind for a function, one time in one to eight; the index after it.
-fn maybe(
-    words: &mut [u32],
-    place: usize,
-    kind: u32,
-    function: u32,
-    odds: u32,
-    state: &mut u64,
-) -> usize {
-    if draw(state, odds % 8 + 1) == 0 {
-        put(words, place, random_word(state, kind, function));
-        return wrapping_add_usize(place, 1);
-    }
-    place
-}
-
-// Words of one kind for some of the functions, in order; the index after them.
-fn random_table(words: &mut [u32], from: usize, kind: u32, state: &mut u64) -> usize {
+// Words of one kind for some of the functions, in order: of each one time in one to eight.
+fn push_table(words: &mut FileWords, kind: u32, state: &mut u64) {
     let odds = draw(state, 8);
-    let mut place = from;
     for function in 1..=27 {
-        place = maybe(words, place, kind, function, odds, state);
+        if draw(state, odds % 8 + 1) == 0 {
+            words.push(random_word(state, kind, function));
+        }
     }
-    place
 }
 
 // More than 12 rules now and then.
-fn random_rules(words: &mut [u32], from: usize, state: &mut u64) -> usize {
+fn push_rules(words: &mut FileWords, state: &mut u64) {
     let most = if draw(state, 50) == 0 { 513 } else { 12 };
-    let count = draw(state, most) as usize;
-    for i in 0..count {
+    for _ in 0..draw(state, most) {
         let function = draw_from(state, 1, 27);
-        let rule = random_word(state, 5, function);
-        put(words, wrapping_add_usize(from, i), rule);
+        words.push(random_word(state, 5, function));
     }
-    wrapping_add_usize(from, count)
 }
 
-// A job's words after its width. Half of the jobs ask for the book, by a bit that no draw uses.
-fn random_job(words: &mut [u32], state: &mut u64) -> usize {
+// Half of the jobs ask for the book, by a bit that no draw uses.
+fn random_job(width: u32, state: &mut u64) -> FileWords {
     let asked = (*state >> 20) % 2 * 128;
-    let header = at(words, 0) | asked as u32;
-    put(words, 0, header);
-    put(words, 1, 0x2000_0000 | draw(state, 0x0100_0000));
-    put(words, 2, 0x3000_0000 | draw_from(state, 1, 27));
-    let some = random_table(words, 2, 3, state);
-    let sources = if some == 2 { 3 } else { some };
-    let targets = random_table(words, sources, 4, state);
-    random_rules(words, targets, state)
-}
-
-pub fn random_file(of_job: bool, words: &mut [u32], state: &mut u64) -> usize {
-    put(words, 0, 0x1000_0000 | draw_from(state, 1, 64));
-    if of_job {
-        return random_job(words, state);
+    let mut words = Words::empty();
+    words.push(0x1000_0000 | width | asked as u32);
+    words.push(0x2000_0000 | draw(state, 0x0100_0000));
+    // The one source, where the table has none.
+    let source = draw_from(state, 1, 27);
+    push_table(&mut words, 3, state);
+    if words.written().len() == 2 {
+        words.push(0x3000_0000 | source);
     }
-    random_mapping(words, state)
+    push_table(&mut words, 4, state);
+    push_rules(&mut words, state);
+    words
 }
 
-fn random_mapping(words: &mut [u32], state: &mut u64) -> usize {
-    let end = random_table(words, 1, 6, state);
-    put(words, end, 0x7000_0000 | draw(state, 0x1000_0000));
-    wrapping_add_usize(end, 1)
+fn random_mapping(width: u32, state: &mut u64) -> FileWords {
+    let mut words = Words::empty();
+    words.push(0x1000_0000 | width);
+    push_table(&mut words, 6, state);
+    words.push(0x7000_0000 | draw(state, 0x1000_0000));
+    words
+}
+
+pub fn random_file(file: File, state: &mut u64) -> FileWords {
+    let width = draw_from(state, 1, 64);
+    match file {
+        File::Job => random_job(width, state),
+        File::Mapping => random_mapping(width, state),
+    }
 }

@@ -4,6 +4,7 @@ use crate::comparison::comparison;
 use crate::logic::logic;
 use crate::places::fits;
 
+// Kept: a type like that of the library, since the second account stands on no crate that it is compared with.
 #[derive(Clone, Copy, PartialEq, Eq)]
 pub struct Operands {
     pub left: u64,
@@ -12,6 +13,7 @@ pub struct Operands {
 }
 
 // The four ports.
+// Kept: a type like that of the library, since the second account stands on no crate that it is compared with.
 #[derive(Clone, Copy, PartialEq, Eq)]
 pub struct Shown {
     pub o0: u64,

@@ -1,7 +1,10 @@
 // What a recipe word shows, place by place. The word is taken apart by division from its low end, as a number in mixed bases.
 use crate::evaluator::{Operands, Shown, evaluate, in_range};
 use crate::places::{at_each_place, bit};
+use std::fmt;
 
+// The fields of a recipe word.
+// Kept: a type like that of the library, since the second account stands on no crate that it is compared with.
 #[derive(Clone, Copy)]
 pub struct Fields {
     pub kind: u32,
@@ -161,7 +164,8 @@ pub fn recipe_shows(word: u32, width: u32, at: Operands) -> Shown {
     outputs(fields, width, target)
 }
 
-// The ports, in the order of document 01's numbers for them.
+// The ports, in document 01's order.
+// Kept: a type like that of `words`, since the second account stands on no crate that it is compared with.
 #[derive(Clone, Copy, PartialEq, Eq)]
 pub enum Port {
     O0,
@@ -170,14 +174,14 @@ pub enum Port {
     O1,
 }
 
-impl Port {
-    pub fn number(self) -> u32 {
-        match self {
-            Port::O0 => 0,
-            Port::Ocout => 1,
-            Port::Ovf => 2,
-            Port::O1 => 3,
-        }
+impl fmt::Display for Port {
+    fn fmt<W: fmt::Write>(&self, f: &mut fmt::Formatter<W>) -> fmt::Result {
+        f.write_str(match self {
+            Port::O0 => "O0",
+            Port::Ocout => "OCOUT",
+            Port::Ovf => "OVF",
+            Port::O1 => "O1",
+        })
     }
 }
 

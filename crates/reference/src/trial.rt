@@ -3,7 +3,7 @@
 ghost use Rattle.std.specs.Prelude.{◌≤◌};
 
 use crate::evaluator::Operands;
-use crate::recipe::{fields_of, first_difference};
+use crate::recipe::{Port, fields_of, first_difference};
 
 // The next of Marsaglia's 64-bit xorshift numbers.
 pub fn next(x: u64) -> u64 {
@@ -105,12 +105,12 @@ pub fn is_right(word: u32, n: u32) -> bool {
     agrees_at_many(word, n)
 }
 
-// What is said of a wrong recipe: its source function, the number of the lowest port that differs, and operands at which it does.
+// What is said of a wrong recipe: its source function, the lowest port that differs, and operands at which it does.
 // Kept: a type like that of `words`, since the second account stands on no crate that it is compared with.
 #[derive(Clone, Copy)]
 pub struct Witness {
     pub function: u32,
-    pub port: u32,
+    pub port: Port,
     pub left: u64,
     pub right: u64,
     pub carry: bool,
@@ -127,5 +127,5 @@ pub fn bears_out(word: u32, n: u32, w: Witness) -> bool {
     let Ok(Some(port)) = first_difference(word, n, operands) else {
         return false;
     };
-    (w.function == fields_of(word).source) & (w.port == port.number())
+    (w.function == fields_of(word).source) & (w.port == port)
 }

@@ -1,5 +1,5 @@
 // What was released is bound anew, by the same rule and by another, and the price follows.
-use accounts::sound::BENCH_WORDS;
+use accounts::sound::BenchWords;
 use bench_calls::steps::Step;
 use bench_calls::steps::Step::{Bind, Release};
 use bench_calls::{calls, lines};
@@ -26,7 +26,7 @@ const STEPS: [Step; 16] = [
     Release(3),
 ];
 
-fn show_price(rt: &HostRuntime, bench: [u32; BENCH_WORDS]) {
+fn show_price(rt: &HostRuntime, bench: BenchWords) {
     let priced = calls::price(bench);
     let price = priced.answer;
     lines::answer(rt, b"", price);

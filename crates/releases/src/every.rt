@@ -1,7 +1,7 @@
 // Every number up to 63 on the largest bench, with each function bound to itself and with nothing bound.
-use accounts::sound::{BENCH_WORDS, BOUND, WIDTH};
+use accounts::sound::BenchWords;
 use bench_calls::calls;
-use bench_calls::files::{counted, whole_bench};
+use bench_calls::files::whole_bench;
 use reference::answer::{Answer, Given, Subject, refused};
 use testing::say;
 use testing::tally::more;
@@ -22,18 +22,15 @@ fn expected_answer(is_bound: bool, function: u32) -> Answer {
     Err(refused(Subject::Word, 24, function as usize))
 }
 
-fn with(all: Tally, bench: [u32; BENCH_WORDS], function: u32, is_bound: bool) -> Tally {
+fn with(all: Tally, bench: BenchWords, function: u32, is_bound: bool) -> Tally {
     let told = calls::release(bench, function);
     let answer = told.answer;
     let mut expected = bench;
     if is_bound {
-        put(
-            &mut expected,
-            std::num::wrapping_add_usize(BOUND - 1, function as usize),
-            0,
-        );
+        let entry = std::num::wrapping_sub_usize(function as usize, 1);
+        put(&mut expected.bound, entry, 0);
     }
-    let same = (answer == expected_answer(is_bound, function)) & (told.bench == counted(expected));
+    let same = (answer == expected_answer(is_bound, function)) & (told.bench == expected.counted());
     Tally {
         tried: more(all.tried, true),
         released: more(all.released, answer.is_ok()),
@@ -41,7 +38,7 @@ fn with(all: Tally, bench: [u32; BENCH_WORDS], function: u32, is_bound: bool) ->
     }
 }
 
-fn report_bench(rt: &HostRuntime, name: &[u8], bench: [u32; BENCH_WORDS], all_bound: bool) {
+fn report_bench(rt: &HostRuntime, name: &[u8], bench: BenchWords, all_bound: bool) {
     let mut all = Tally {
         tried: 0,
         released: 0,
@@ -52,17 +49,10 @@ fn report_bench(rt: &HostRuntime, name: &[u8], bench: [u32; BENCH_WORDS], all_bo
         all = with(all, bench, function, is_source & all_bound);
     }
     say::text(rt, name);
-    say::line(
-        rt,
-        b": # numbers tried, # released, # differ\n",
-        &[all.tried, all.released, all.differ],
+    let _ = println!(rt;
+        ": {} numbers tried, {} released, {} differ",
+        all.tried, all.released, all.differ
     );
-}
-
-fn emptied(bench: [u32; BENCH_WORDS]) -> [u32; BENCH_WORDS] {
-    let mut empty = bench;
-    empty[BOUND..WIDTH].fill(0);
-    counted(empty)
 }
 
 pub fn report(rt: &HostRuntime) {
@@ -71,7 +61,11 @@ pub fn report(rt: &HostRuntime) {
     report_bench(
         rt,
         b"every function a source, nothing bound",
-        emptied(bench),
+        BenchWords {
+            bound: [0; 27],
+            ..bench
+        }
+        .counted(),
         false,
     );
 }

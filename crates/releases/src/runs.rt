@@ -1,13 +1,13 @@
 // Random runs of binds and releases, each answer and each bench beside the account's; and at the end of a run the list bound again, in its
 // own order, from the bench with nothing bound.
 use crate::account::{List, answer_to, bench_of};
-use accounts::sound::{BENCH_WORDS, WIDTH};
+use accounts::sound::BenchWords;
 use bench_calls::steps::Step;
 use bench_calls::{calls, lines};
 use reference::trial::next;
 use testing::say;
 use testing::tally::more;
-use testing::words::word_of;
+use testing::words::{from_scratch, word_of};
 
 // A job of all functions but those that 5 divides, onto all but those that 7 divides.
 const JOB: [u32; 48] = [
@@ -61,14 +61,11 @@ const JOB: [u32; 48] = [
     0x4000_001B,
 ];
 
-// The vectors of the logic functions, from 6 on.
-const VECTORS: [u32; 16] = [0, 15, 1, 14, 7, 8, 6, 9, 3, 5, 12, 10, 4, 2, 13, 11];
-
 // A run: the bench, the account's list, the binds and the releases that were done, the steps that were refused, and those at which the
 // two differ.
 #[derive(Clone, Copy)]
 struct Run {
-    bench: [u32; BENCH_WORDS],
+    bench: BenchWords,
     list: List,
     bound: u64,
     released: u64,
@@ -77,22 +74,18 @@ struct Run {
 }
 
 // The tables of the job at a width, with nothing bound.
-fn tables_at(width: u32) -> [u32; BENCH_WORDS] {
+fn tables_at(width: u32) -> BenchWords {
     let opened = calls::open(&JOB);
     let mut bench = opened.bench;
-    bench[WIDTH] = width;
+    bench.width = width;
     bench
 }
 
 // A rule of a function: from scratch, if it is a logic function, or out of itself; now and then with a bit turned.
 fn rule_of(function: u32, random: u64) -> u32 {
-    let own = word_of(5, function);
-    let index = std::num::wrapping_sub_u32(function, 6) as usize;
-    let plain = if (index < 16) & (random % 2 == 0) {
-        0x5000_0000 | (function << 23) | VECTORS[index % 16]
-    } else {
-        own
-    };
+    let plain = from_scratch(5, function)
+        .filter(|_| random % 2 == 0)
+        .unwrap_or(word_of(5, function));
     if random / 2 % 4 == 0 {
         return plain ^ (1u32 << (random / 8 % 32));
     }
@@ -100,7 +93,7 @@ fn rule_of(function: u32, random: u64) -> u32 {
 }
 
 // After a step: what was told beside the answer of the account, and its list, which is another where the step was to be done.
-fn with_step(run: Run, tables: [u32; BENCH_WORDS], step: Step) -> Run {
+fn with_step(run: Run, tables: BenchWords, step: Step) -> Run {
     let before = run.list;
     let told = step.taken_on(run.bench);
     let answer = told.answer;
@@ -134,7 +127,7 @@ fn step_of(random: u64, binds: u64) -> Step {
     }
 }
 
-fn begun(tables: [u32; BENCH_WORDS]) -> Run {
+fn begun(tables: BenchWords) -> Run {
     Run {
         bench: tables,
         list: List::empty(),
@@ -146,7 +139,7 @@ fn begun(tables: [u32; BENCH_WORDS]) -> Run {
 }
 
 // The list bound again from the first on.
-fn bound_again(tables: [u32; BENCH_WORDS], list: List) -> [u32; BENCH_WORDS] {
+fn bound_again(tables: BenchWords, list: List) -> BenchWords {
     let mut bench = tables;
     for rule in list.rules() {
         let told = calls::bind(bench, *rule);
@@ -155,7 +148,7 @@ fn bound_again(tables: [u32; BENCH_WORDS], list: List) -> [u32; BENCH_WORDS] {
     bench
 }
 
-fn run_of(tables: [u32; BENCH_WORDS], binds: u64) -> Run {
+fn run_of(tables: BenchWords, binds: u64) -> Run {
     let mut run = begun(tables);
     let mut random: u64 = 88172645463325252 ^ binds;
     for _ in 0..20000 {
@@ -170,17 +163,13 @@ fn report_run(rt: &HostRuntime, width: u32, binds: u64) {
     let run = run_of(tables, binds);
     let list = run.list;
     let again = bound_again(tables, list);
-    say::line(
-        rt,
-        b"a run at width #: # bound, # released, # refused, # differ; # bound at the end, ",
-        &[
-            width as u64,
-            run.bound,
-            run.released,
-            run.refused,
-            run.differ,
-            list.rules().len() as u64,
-        ],
+    let _ = print!(rt;
+        "a run at width {width}: {} bound, {} released, {} refused, {} differ; {} bound at the end, ",
+        run.bound,
+        run.released,
+        run.refused,
+        run.differ,
+        list.rules().len()
     );
     lines::whether(
         rt,

@@ -2,7 +2,7 @@
 #![tactic(auto)]
 
 ghost use Rattle.std.specs.Prelude.{◌≡◌, ◌≤◌, length, [], ◌∷◌};
-ghost use Rattle.words.specs.Paper.{accepted, refused_with, told};
+ghost use Rattle.words.specs.Paper.{accepted, port_number, refused_with, told};
 ghost use Rattle.bits.specs.Bits.{num};
 ghost use Rattle.writer.specs.Write as W;
 ghost use Rattle.report.specs.Told as D;
@@ -84,7 +84,7 @@ impl From<Ports> for Report {
 
 // Refusal 10: the port, the operands and the carry.
 impl From<Witness> for Report {
-    ghost from_gives = { λ witness report. report ≡ D.report_of (refused_with 10 witness.function (witness.port ∷ witness.left ∷ witness.right ∷ num witness.carry ∷ [])) };
+    ghost from_gives = { λ witness report. report ≡ D.report_of (refused_with 10 witness.function (port_number witness.port ∷ witness.left ∷ witness.right ∷ num witness.carry ∷ [])) };
 
     fn from(witness: Witness) -> Report {
         Report {
@@ -92,7 +92,7 @@ impl From<Witness> for Report {
             place: witness.function as usize,
             count: MOST_VALUES,
             values: [
-                u64::from(witness.port),
+                u64::from(u32::from(witness.port)),
                 witness.left,
                 witness.right,
                 u64::from(witness.carry),
@@ -102,6 +102,7 @@ impl From<Witness> for Report {
 }
 
 // Puts values into the caller's words, if they are enough.
+#[tactic(auto, using(crate::proofs::Telling::too_few, crate::proofs::Telling::all_put))]
 fn put_values(values: &[u64], out: &mut [u64])
     ensures { out.new ≡ W.lent_after values.now out.old }
 {

@@ -8,6 +8,7 @@ use table::Terms;
 use verdict::Verdict;
 
 // The verdict on the first binding that is wrong, or Right.
+#[tactic(auto, using(crate::proofs::Judging::a_wrong_one, crate::proofs::Judging::next_binding, crate::proofs::Judging::all_right))]
 pub fn first_wrong(terms: &Terms, bindings: &[u32]) -> Verdict
     ensures { W.SaysOfAll (T.terms_held terms.now) bindings.now result }
 {

@@ -9,14 +9,10 @@ use reference::answer::{Refusal, Subject, refused};
 use reference::recipe::fields_of;
 use reference::trial::is_right;
 use std::num::wrapping_add_usize;
-use testing::words::{at, content, first, glue_word, kind, put};
+use testing::words::{Words, at, content, glue_word, kind};
 
-// What a mapper writes: the first words, so many of them.
-#[derive(Clone, Copy)]
-pub struct Mapped {
-    pub words: [u32; 29],
-    pub size: usize,
-}
+// No mapping has more words.
+pub type Mapping = Words<29>;
 
 // Whether a source can be bound by a rule.
 fn is_usable(job: &[u32], rule: u32, of_book: bool, source: u32) -> bool {
@@ -35,28 +31,27 @@ fn is_usable(job: &[u32], rule: u32, of_book: bool, source: u32) -> bool {
     }
 }
 
-// The glue of the bindings before an index and a rule.
-fn glue_with(job: &[u32], bound: [u32; 29], index: usize, rule: u32) -> u64 {
+// The glue of a mapping that has no glue count yet.
+fn glue_of(job: &[u32], bound: Mapping) -> u64 {
     let mut words = bound;
-    put(&mut words, index, rule);
-    // With the place of the glue count, as a mapping has it.
-    count_for(job, first(&words, wrapping_add_usize(index, 2)))
+    words.push(glue_word(0));
+    count_for(job, words.written())
+}
+
+fn glue_with(job: &[u32], bound: Mapping, rule: u32) -> u64 {
+    let mut words = bound;
+    words.push(rule);
+    glue_of(job, words)
 }
 
 // The rule with the least glue, of several the earliest, which comes last here.
-fn best_rule(
-    job: &[u32],
-    book: &[u32],
-    bound: [u32; 29],
-    index: usize,
-    source: u32,
-) -> Option<u32> {
+fn best_rule(job: &[u32], book: &[u32], bound: Mapping, source: u32) -> Option<u32> {
     let own_rules = job.iter().map(|rule| (*rule, false));
     let book_rules = book.iter().map(|rule| (*rule, true));
     let mut best = None;
     for (rule, of_book) in own_rules.chain(book_rules).rev() {
         if is_usable(job, rule, of_book, source) {
-            let glue = glue_with(job, bound, index, rule);
+            let glue = glue_with(job, bound, rule);
             best = match best {
                 Some((_, least)) if least < glue => best,
                 _ => Some((rule, glue)),
@@ -67,19 +62,19 @@ fn best_rule(
 }
 
 // The header of a mapping and a binding for each source, to before an index; or the source for which there is no usable rule.
-fn bound_by_best(job: &[u32], book: &[u32], end: usize) -> Result<[u32; 29], u32> {
-    let mut words = [0u32; 29];
-    words[0] = 0x1000_0000 | width_of(job);
+fn bound_by_best(job: &[u32], book: &[u32], end: usize) -> Result<Mapping, u32> {
+    let mut words = Words::empty();
+    words.push(0x1000_0000 | width_of(job));
     for i in 1..end {
         let source = content(at(job, wrapping_add_usize(i, 1)));
-        let rule = best_rule(job, book, words, i, source).ok_or(source)?;
-        put(&mut words, i, 0x6000_0000 | content(rule));
+        let rule = best_rule(job, book, words, source).ok_or(source)?;
+        words.push(0x6000_0000 | content(rule));
     }
     Ok(words)
 }
 
 // What a mapper that has a book answers with so many words lent.
-pub fn map(job: &[u32], book: &[u32], lent: usize) -> Result<Mapped, Refusal> {
+pub fn map(job: &[u32], book: &[u32], lent: usize) -> Result<Mapping, Refusal> {
     let facts = read_job(job)?;
     let last = wrapping_add_usize(facts.sources as usize, 1);
     let asked = if facts.book { book } else { &book[..0] };
@@ -92,7 +87,7 @@ pub fn map(job: &[u32], book: &[u32], lent: usize) -> Result<Mapped, Refusal> {
     if lent < size {
         return Err(refused(Subject::Job, 23, size));
     }
-    let count = count_for(job, first(&words, size));
-    put(&mut words, last, glue_word(count));
-    Ok(Mapped { words, size })
+    let glue = glue_of(job, words);
+    words.push(glue_word(glue));
+    Ok(words)
 }

@@ -7,11 +7,11 @@ ghost use Rattle.files.specs.Files as F;
 ghost use Rattle.sequence.specs.Limits.{most_mapping_words};
 
 use std::fs::File;
-use std::io::{Error, ErrorKind, Write};
-use std::str;
+use std::io::{Error, Write};
 use text::Text;
 
 // The bytes of a mapping's file.
+#[tactic(auto, using(crate::proofs::Filed::one_filed, crate::proofs::Filed::all_filed, std::proofs::lemmas::Grind::common_steps))]
 fn put_file(words: &[u32], file: &mut Text)
     requires { length file.old + 4 * length words.now ≤ room }
     ensures { file.new ≡ file.old ++ F.file_of words.now }
@@ -21,17 +21,9 @@ fn put_file(words: &[u32], file: &mut Text)
     }
 }
 
-// Opens a file for writing, empty. Its name is text.
-fn create(rt: &HostRuntime, path: &[u8]) -> Result<File, Error> {
-    match str::from_utf8(path) {
-        Ok(name) => File::create(rt, name),
-        Err(_) => Err(Error::from(ErrorKind::InvalidFilename)),
-    }
-}
-
-// Writes bytes to the file of a name.
+// Writes bytes to the file of a name, which is empty before.
 fn write_file(rt: &HostRuntime, path: &[u8], bytes: &[u8]) -> Result<(), Error> {
-    let mut file = create(rt, path)?;
+    let mut file = input::open_by(path, |name| File::create(rt, name))?;
     file.write_all(bytes)
 }
 

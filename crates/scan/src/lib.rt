@@ -9,6 +9,7 @@ use sequence::{File, State};
 use words::Refusal;
 
 // Word by word: the state after the last one, or the first refusal.
+#[tactic(auto, using(grammar::proofs::Turns::turns))]
 pub fn read_words(file: File, words: &[u32]) -> Result<State, Refusal>
     requires { length words.now ≤ most_job_words }
     ensures { result ≡ R.reading file R.beginning 0 words.now }

@@ -30,8 +30,8 @@ fn is_in(set: u64, i: u8) -> bool
 
 // From the start states without and with a carry, with k + 1 places to go.
 fn decide(tables: &Tables, k: usize, plain: u8, carried: u8) -> Option<Counterexample>
-    requires { F.TableSizes tables.now.moves tables.now.tops × (k < 64) × (plain < 64) × (carried < 64) }
-    ensures { S.Concluded tables.now.moves tables.now.tops k plain carried result }
+    requires { (k < 64) × (plain < 64) × (carried < 64) }
+    ensures { S.Concluded tables.now k plain carried result }
 {
     let rounds = rounds::failing_sets(tables, k);
     let set = rounds.sets[rounds.last];

@@ -99,6 +99,7 @@ fn mapping_sequence(s: State, kind: WordKind) -> bool
 }
 
 // May a word of this kind come next?
+#[tactic(auto, unfolding(crate::specs::Sequence::in_sequence))]
 pub fn in_sequence(file: File, s: State, kind: WordKind) -> bool
     ensures { result ≡ S.in_sequence file s (kind_number kind) }
 {

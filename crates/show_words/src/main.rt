@@ -6,6 +6,7 @@ ghost use Rattle.std.specs.Prelude.{◌≤◌};
 use text::Text;
 
 // The bytes of a word so far, and how many they are.
+// Kept: no heap, a rule of the project.
 #[derive(Clone, Copy)]
 struct Word {
     bytes: [u8; 4],
@@ -23,10 +24,8 @@ fn next_word() -> Word {
 
 // Prints a word's line, and answers whether it could.
 fn show(rt: &HostRuntime, bytes: [u8; 4]) -> bool {
-    let mut words = [0u32; 1];
-    files::words_of(&bytes, &mut words);
     let mut line = Text::new();
-    describe::put_word(words[0], &mut line);
+    describe::put_word(u32::from_le_bytes(bytes), &mut line);
     console::print(rt, line.as_bytes())
 }
 

@@ -1,11 +1,15 @@
 -- Words copied into lent ones: what then stands in the words of a job.
-use mathlib.Core.Path.{◌≡◌, sym, ap, ◌∙◌}
+use mathlib.Core.Path.{◌≡◌, ap, ◌∙◌}
 use mathlib.Core.List.{List, ◌∷◌, ◌++◌}
 use Prim.Native.Nat.{ℕ, ◌+◌, ◌≤◌}
 use native.Mathlib.Omega.{arith}
 use lib.ListN.{length, take, drop, set, replicate, length-append}
-use lib.Seq.{sets, sets-eq, length-sets, length-take-le, take_at}
+use lib.Seq.{sets, sets-eq, length-take-le, take_at}
+use Rattle.std.specs.Prelude.{Result}
 use Rattle.words.proofs.Copies.{sets-append}
+use Rattle.words.specs.declared.Refusal.{Refusal}
+use Rattle.reader.specs.Job.{job_of}
+use Rattle.reader.specs.declared.Job.{Job}
 use Rattle.sequence.specs.Limits.{most_sources, most_targets}
 
 -- ---- a job without rules
@@ -26,12 +30,10 @@ module _ (header prices : ℕ) (ss ts m k : List ℕ) (few_sources : length ss �
   both_copied =
       ek ∙ ap (λ (x : List ℕ). sets x (2 + length ss) ts) em ∙ sets-append ss ts (front header prices) 2
 
-  pub job_length : 2 + length ss + length ts ≡ length (take (2 + length ss + length ts) k)
-  job_length =
-      sym (length-take-le (2 + length ss + length ts) k
-      (rw (both_copied, length-sets (front header prices) 2 (ss ++ ts)) (omega arith)))
-
-  pub job_words : take (2 + length ss + length ts) k ≡ header ∷ prices ∷ (ss ++ ts)
-  job_words =
+  words_taken : take (2 + length ss + length ts) k ≡ header ∷ prices ∷ (ss ++ ts)
+  words_taken =
       let q : 2 + length ss + length ts ≡ 2 + length (ss ++ ts) = omega (arith, length-append ss ts) in
       rw (both_copied, q) (sets-taken (ss ++ ts) (front header prices) 2 (omega (arith, length-append ss ts)))
+
+  pub job_words : (r : Result Job Refusal) → r ≡ job_of (take (2 + length ss + length ts) k) → r ≡ job_of (header ∷ prices ∷ (ss ++ ts))
+  job_words r e = e ∙ ap job_of words_taken

@@ -6,14 +6,12 @@ use Prim.Native.Nat.{ℕ, ◌≤◌}
 use lib.Bits.{bit_or, or_zero_r}
 use lib.Dec.{eqb}
 use Rattle.std.specs.Prelude.{fold, if◌then◌else◌}
-use Rattle.bits.specs.Asked.{Width}
 use Rattle.usage.specs.Sets.{usage_of, usage}
 use Rattle.usage.proofs.Joining.{or_assoc}
 use Rattle.tally.specs.Parts.{set_count}
 use Rattle.tally.proofs.Joining.{price_is_glue}
-use Rattle.soundness.specs.Sound.{filled, glue_on, tables_sound}
+use Rattle.soundness.specs.Sound.{filled, glue_on}
 use Rattle.soundness.specs.declared.Tables.{Tables}
-use Rattle.soundness.proofs.Soundness.{counted}
 
 -- ---- what the filled entries use
 
@@ -32,14 +30,10 @@ folded (w ∷ bs) s =
     let x = if eqb w 0 then 0 else usage_of w in
     folded bs (bit_or s x) ∙ or_assoc s x (usage (filled bs)) ∙ ap (bit_or s) (sym (usage-filled w bs))
 
-pub all_used : (bs : List ℕ) → fold (λ u w. bit_or u (if eqb w 0 then 0 else usage_of w)) 0 bs ≡ usage (filled bs)
-all_used bs = folded bs 0
+pub all_used : (bs : List ℕ) (r : ℕ) → r ≡ fold (λ u w. bit_or u (if eqb w 0 then 0 else usage_of w)) 0 bs → r ≡ usage (filled bs)
+all_used bs r e = e ∙ folded bs 0
 
 -- ---- the count
-
-module _ (t : Tables) (s : tables_sound t ≡ true) where
-  pub counted_width : Width t.width
-  counted_width = (counted t s).width
 
 pub set_counted : (t : Tables) (bound : List ℕ) (u r : ℕ) → u ≡ usage (filled bound)
     → (r ≡ set_count t.width t.prices u) × (r ≤ 612000) → r ≡ glue_on t bound

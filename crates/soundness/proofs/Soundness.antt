@@ -149,6 +149,9 @@ module _ (b : Tables) (p : Bool) (ep : p ≡ is_width b.width) where
   no_width h = rw (sym ep ∙ not-true p h) refl
 
   module _ (hp : not p ≡ false) where
+    pub width_tested : Width b.width
+    width_tested = width_of b.width (sym ep ∙ not-false p hp)
+
     pub header_fits_lem : b.width < 2 ^ 28
     header_fits_lem = omega (arith, width_of b.width (sym ep ∙ not-false p hp))
 
@@ -266,21 +269,28 @@ module _ (b : Tables) (bound : List ℕ) (g : ℕ) (p : Bool) (ep : p ≡ tables
 
 -- ---- what sound tables are asked for
 
+-- their width, and their words within their entries
+module _ (b : Tables) (s : tables_sound b ≡ true) where
+  pub width_sound : Width b.width
+  width_sound = (counted b s).width
+
+  pub few_sources : b.nsources ≤ most_sources
+  few_sources = (counted b s).few_sources
+
+  pub few_targets : b.ntargets ≤ most_targets
+  few_targets = (counted b s).few_targets
+
+pub ruleset in_range = (width_sound, few_sources, few_targets)
+
 module _ (b : Tables) (p : Bool) (ep : p ≡ tables_sound b) (hp : not p ≡ false) where
   pub tables_hold : tables_sound b ≡ true
   tables_hold = sym ep ∙ not-false p hp
 
-  tables_counted : Counted b
-  tables_counted = counted b tables_hold
-
-  pub tables_width : Width b.width
-  tables_width = tables_counted.width
-
   pub tables_sources : b.nsources ≤ most_sources
-  tables_sources = tables_counted.few_sources
+  tables_sources = few_sources b tables_hold
 
   pub tables_targets : b.ntargets ≤ most_targets
-  tables_targets = tables_counted.few_targets
+  tables_targets = few_targets b tables_hold
 
 pub sound_tables : (b : Tables) (bound : List ℕ) (g : ℕ) → is_sound b bound g ≡ true → tables_sound b ≡ true
 unfolding is_sound

@@ -1,10 +1,9 @@
 // The glue count of what is bound: of the set that the bindings in all entries use.
-ghost use Rattle.std.specs.Prelude.{◌≡◌, true, eqb, if◌then◌else◌};
+ghost use Rattle.std.specs.Prelude.{◌≡◌, eqb, if◌then◌else◌};
 ghost use Rattle.usage.specs.Sets as U;
 ghost use Rattle.soundness.specs.Sound as S;
 
-use crate::{NOTHING, Tables};
-use bits::Width;
+use crate::{NOTHING, SoundTables};
 use sequence::MOST_SOURCES;
 
 // What the binding in an entry uses; an empty one uses nothing.
@@ -18,6 +17,7 @@ fn entry_usage(word: u32) -> u64
 }
 
 // What the bindings in all entries use.
+#[tactic(auto, using(crate::proofs::Count::all_used))]
 fn usage_of(bound: &[u32]) -> u64
     ensures { result ≡ U.usage (S.filled bound.now) }
 {
@@ -25,11 +25,10 @@ fn usage_of(bound: &[u32]) -> u64
 }
 
 // The glue count of what is bound.
-#[tactic(auto, using(crate::proofs::Count::counted_width, crate::proofs::Count::set_counted))]
-pub fn glue_on(tables: Tables, bound: [u32; MOST_SOURCES]) -> u32
-    requires { S.tables_sound tables ≡ true }
-    ensures { result ≡ S.glue_on tables bound }
+#[tactic(auto, using(crate::proofs::Count::set_counted))]
+pub fn glue_on(tables: SoundTables, bound: [u32; MOST_SOURCES]) -> u32
+    ensures { result ≡ S.glue_on tables.tables bound }
 {
-    let prices = tables.prices;
-    tally::price(usage_of(&bound), Width { n: tables.width }, prices)
+    let terms = tables.terms();
+    tally::price(usage_of(&bound), terms.width, terms.prices)
 }

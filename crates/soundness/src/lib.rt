@@ -4,6 +4,7 @@
 
 mod counting;
 mod reading;
+mod sound;
 
 ghost use Rattle.std.specs.Prelude.{◌≡◌, ◌≤◌, length};
 ghost use Rattle.bits.specs.Asked as Q;
@@ -15,6 +16,7 @@ use bits::Width;
 pub use counting::glue_on;
 pub use reading::copy;
 use sequence::{MOST_SOURCES, MOST_TARGETS};
+pub use sound::SoundTables;
 use table::Terms;
 use words::{Fault, Prices, WordKind};
 
@@ -71,6 +73,7 @@ pub fn rule_fault(word: u32) -> Option<Fault>
 }
 
 // Whether a word may be bound to a source: a right rule of it, from scratch or from a target of the table.
+#[tactic(auto, using(crate::proofs::Soundness::bad_rule, crate::proofs::Soundness::other_source, crate::proofs::Soundness::no_target, crate::proofs::Soundness::by_rightness))]
 fn bindable(terms: &Terms, source: u32, word: u32) -> bool
     ensures { result ≡ S.bindable terms.now.width.n terms.now.sources.now terms.now.targets.now source word }
 {
@@ -86,6 +89,7 @@ fn bindable(terms: &Terms, source: u32, word: u32) -> bool
     claims::is_right(terms, word)
 }
 
+#[tactic(auto, using(crate::proofs::Soundness::nothing_bound, crate::proofs::Soundness::something_bound))]
 fn entry_sound(terms: &Terms, source: u32, word: u32) -> bool
     ensures { result ≡ S.entry_sound terms.now.width.n terms.now.sources.now terms.now.targets.now source word }
 {
@@ -96,6 +100,7 @@ fn entry_sound(terms: &Terms, source: u32, word: u32) -> bool
 }
 
 // Each source's entry, and nothing in the entries past them.
+#[tactic(auto, using(crate::proofs::Soundness::sound_entry, crate::proofs::Soundness::past_sources))]
 fn bound_sound(terms: &Terms, bound: &[u32]) -> bool
     requires { length terms.now.sources.now ≤ length bound.now }
     ensures { result ≡ S.bound_sound terms.now.width.n terms.now.sources.now terms.now.targets.now terms.now.sources.now bound.now }
@@ -108,6 +113,7 @@ fn bound_sound(terms: &Terms, bound: &[u32]) -> bool
     is_empty(&bound[terms.sources.len()..])
 }
 
+#[tactic(auto, using(crate::proofs::Shapes::tables_shaped, crate::proofs::Soundness::tables_hold, crate::proofs::Soundness::tables_sources, crate::proofs::Soundness::tables_targets, crate::proofs::Soundness::unsound_tables, crate::proofs::Soundness::source_past, crate::proofs::Soundness::target_past, crate::proofs::Soundness::unsound_entries, crate::proofs::Soundness::by_count))]
 pub fn is_sound(tables: Tables, bound: [u32; MOST_SOURCES], glue: u32) -> bool
     ensures { result ≡ S.is_sound tables bound glue }
 {
@@ -122,8 +128,9 @@ pub fn is_sound(tables: Tables, bound: [u32; MOST_SOURCES], glue: u32) -> bool
     if !is_empty(&targets[tables.ntargets as usize..]) {
         return false;
     }
-    if !bound_sound(&tables.terms(), &bound) {
+    let sound = SoundTables { tables };
+    if !bound_sound(&sound.terms(), &bound) {
         return false;
     }
-    glue == glue_on(tables, bound)
+    glue == glue_on(sound, bound)
 }

@@ -24,6 +24,7 @@ pub fn copy(words: &[u32], lent: &mut [u32], at: usize)
 }
 
 // The prices as a job's second word has them.
+#[tactic(auto, using(crate::proofs::Soundness::prices_laid))]
 fn prices_word(prices: Prices) -> u32
     ensures { result ≡ S.prices_word prices }
 {
@@ -36,6 +37,7 @@ fn prices_word(prices: Prices) -> u32
 }
 
 // Reads the job of a header, prices and tables that has no rules.
+#[tactic(auto, using(crate::proofs::Copying::job_words))]
 fn read_tables(header: u32, prices: u32, sources: &[u32], targets: &[u32]) -> Result<Job, Refusal>
     requires { (length sources.now ≤ most_sources) × (length targets.now ≤ most_targets) }
     ensures { result ≡ J.job_of (header ∷ prices ∷ (sources.now ++ targets.now)) }
@@ -51,6 +53,7 @@ fn read_tables(header: u32, prices: u32, sources: &[u32], targets: &[u32]) -> Re
 }
 
 // Whether the job was accepted with so many sources and targets.
+#[tactic(auto, using(crate::proofs::Soundness::as_accepted))]
 fn holds(nsources: u32, ntargets: u32, read: Result<Job, Refusal>) -> bool
     ensures { result ≡ S.holds nsources ntargets read }
 {
@@ -60,6 +63,7 @@ fn holds(nsources: u32, ntargets: u32, read: Result<Job, Refusal>) -> bool
     }
 }
 
+#[tactic(auto, using(crate::proofs::Soundness::no_width, crate::proofs::Soundness::width_tested, crate::proofs::Soundness::header_fits_lem, crate::proofs::Soundness::many_sources, crate::proofs::Soundness::many_targets, crate::proofs::Soundness::tables_read))]
 pub fn tables_sound(tables: Tables) -> bool
     ensures { result ≡ S.tables_sound tables }
 {

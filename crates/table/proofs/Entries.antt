@@ -37,10 +37,6 @@ listed_source ws f e = at_found source_function ws f e
 -- ---- a recipe's target, and both its functions
 
 module _ (ts : List ℕ) (w : ℕ) (b : Bool) (eb : b ≡ from_scratch w) where
-  pub from_scratch_lem : b ≡ true → b ≡ has_target ts w
-  unfolding has_target
-  from_scratch_lem h = rw (sym eb ∙ h) h
-
   pub from_target_lem : (t : ℕ) (r : Bool) → b ≡ false → t ≡ target_of w → r ≡ lists_target ts t → r ≡ has_target ts w
   unfolding has_target
   from_target_lem t r h et er = rw (sym eb ∙ h) (er ∙ ap (lists_target ts) et)
@@ -52,10 +48,6 @@ module _ (ss ts : List ℕ) (w f : ℕ) (ef : f ≡ source_of w) (b : Bool) (eb 
   pub source_absent : b ≡ false → b ≡ in_job ss ts w
   unfolding in_job
   source_absent h = rw (source_known ∙ h) h
-
-  pub source_present : (r : Bool) → b ≡ true → r ≡ has_target ts w → r ≡ in_job ss ts w
-  unfolding in_job
-  source_present r h er = rw (source_known ∙ h) er
 
 -- what is in the job has its source there, and its target
 pub in_job-parts : (ss ts : List ℕ) (w : ℕ) → in_job ss ts w ≡ true → (lists_source ss (source_of w) ≡ true) × (has_target ts w ≡ true)

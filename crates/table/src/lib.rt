@@ -7,11 +7,12 @@ mod terms;
 ghost use Rattle.std.specs.Prelude.{◌≡◌};
 ghost use Rattle.table.specs.Table as T;
 
-pub use parts::{bindings_of, rules_of, terms_of};
+pub use parts::{JobWords, bindings_of};
 pub use terms::Terms;
 
 impl Terms<'_> {
     // Whether a recipe is from scratch or from a target of the job.
+    #[tactic(auto, unfolding(crate::specs::Table::has_target))]
     pub fn has_target(&self, word: u32) -> bool
         ensures { result ≡ T.has_target self.now.targets.now word }
     {
@@ -24,6 +25,7 @@ impl Terms<'_> {
     }
 
     // Whether the source and the target function of a recipe are in the job.
+    #[tactic(auto, unfolding(crate::specs::Table::in_job, crate::specs::Table::lists_source))]
     pub fn in_job(&self, word: u32) -> bool
         ensures { result ≡ T.in_job self.now.sources.now self.now.targets.now word }
     {

@@ -66,6 +66,7 @@ fn complements(width: Width, prices: Prices, parts: Parts) -> u32
         + when(has(parts.left, 5) | has(parts.right, 5), inverters)
 }
 
+// Kept: this and carry_out differ in constants, but each is a line of document 01's glue count.
 #[tactic(auto, unfolding(glue::specs::Glue::carry_in))]
 fn carry_in(prices: Prices, parts: Parts) -> u32
     ensures { (result ≡ G.carry_in prices (P.used parts)) × (result ≤ 1020) }

@@ -1,4 +1,6 @@
 // Counts of what was compared. They never come near 2^64.
+use std::fmt;
+
 // A count, raised by one where b.
 pub fn more(n: u64, b: bool) -> u64 {
     std::num::wrapping_add_u64(n, b as u64)
@@ -32,7 +34,13 @@ impl Tally {
     }
 }
 
-// The same with how many had each number: 0 for no refusal.
+impl fmt::Display for Tally {
+    fn fmt<W: fmt::Write>(&self, f: &mut fmt::Formatter<W>) -> fmt::Result {
+        write!(f, "{} compared, {} differ", self.compared, self.differ)
+    }
+}
+
+// The same with how many had each number of a refusal, and before these how many had none.
 #[derive(Clone, Copy)]
 pub struct Numbers {
     pub tally: Tally,
@@ -46,10 +54,10 @@ pub fn no_numbers() -> Numbers {
     }
 }
 
-pub fn noted(all: Numbers, number: u32, same: bool) -> Numbers {
+pub fn noted(all: Numbers, number: Option<u32>, same: bool) -> Numbers {
     let mut all = all;
     all.tally.count(same);
-    let i = (number % 12) as usize;
+    let i = (number.unwrap_or(0) % 12) as usize;
     all.by[i] = more(all.by[i], true);
     all
 }

@@ -1,5 +1,5 @@
 // The job and the mapping that document 01 prints, and how words are taken apart and put together.
-use std::num::wrapping_sub_usize;
+use std::num::{wrapping_add_usize, wrapping_sub_usize};
 
 pub const JOB: [u32; 14] = [
     0x1000_0010,
@@ -26,6 +26,15 @@ pub const MAPPING: [u32; 6] = [
     0x6C89_440C,
     0x7000_0094,
 ];
+
+// The vectors of the logic functions, from 6 on: document 01's Table 4, with LIMPL and RIMPL as in Table 2.
+pub const VECTORS: [u32; 16] = [
+    0b0000, 0b1111, 0b0001, 0b1110, 0b0111, 0b1000, 0b0110, 0b1001, 0b0011, 0b0101, 0b1100, 0b1010,
+    0b0100, 0b0010, 0b1101, 0b1011,
+];
+
+// What a lent word holds before.
+pub const LENT: u32 = 0xEEEE_EEEE;
 
 pub fn kind(word: u32) -> u32 {
     word / 0x1000_0000
@@ -66,6 +75,76 @@ pub fn after(words: &[u32], n: usize) -> &[u32] {
     }
 }
 
+// Whether these words stand in lent words, and nothing past them.
+pub fn lent_holds(lent: &[u32], words: &[u32]) -> bool {
+    let size = words.len();
+    first(lent, size) == words && after(lent, size).iter().all(|word| *word == LENT)
+}
+
+// Words written one after another, ROOM at most.
+// Kept: no heap, a rule of the project.
+#[derive(Clone, Copy)]
+pub struct Words<const ROOM: usize> {
+    words: [u32; ROOM],
+    size: usize,
+}
+
+impl<const ROOM: usize> Words<ROOM> {
+    pub fn empty() -> Words<ROOM> {
+        Words {
+            words: [0; ROOM],
+            size: 0,
+        }
+    }
+
+    pub fn written(&self) -> &[u32] {
+        first(&self.words, self.size)
+    }
+
+    // One word more; where all are written nothing.
+    pub fn push(&mut self, word: u32) {
+        if self.size < ROOM {
+            self.words[self.size] = word;
+            self.size += 1;
+        }
+    }
+
+    // A word instead of the one at an index; past the last nothing.
+    pub fn put(&mut self, i: usize, word: u32) {
+        if i < self.size {
+            put(&mut self.words, i, word);
+        }
+    }
+
+    // A word before the one at an index. Where all are written the last goes.
+    pub fn insert(&mut self, index: usize, word: u32) {
+        self.push(word);
+        let mut moved = word;
+        for i in index..self.size {
+            let next = at(&self.words, i);
+            put(&mut self.words, i, moved);
+            moved = next;
+        }
+    }
+
+    // Takes the word at an index out.
+    pub fn remove(&mut self, index: usize) {
+        for i in index..self.size {
+            let next = at(&self.words, wrapping_add_usize(i, 1));
+            put(&mut self.words, i, next);
+        }
+        self.size = self.size.saturating_sub((index < self.size) as usize);
+    }
+
+    // Cut to so many words, or lengthened to them by zeros.
+    pub fn resize(&mut self, size: usize) {
+        for _ in self.size..size {
+            self.push(0);
+        }
+        self.size = self.size.min(size);
+    }
+}
+
 // The words of a mapping between its header and its glue count.
 pub fn bindings_of(mapping: &[u32]) -> &[u32] {
     first(after(mapping, 1), wrapping_sub_usize(mapping.len(), 2))
@@ -84,6 +163,16 @@ pub fn word_of(kind: u32, function: u32) -> u32 {
         _ => 0x001,
     };
     (kind << 28) | (function << 23) | (function << 18) | 0x1_4000 | outputs
+}
+
+// A recipe of a logic function from scratch; no other function has one.
+pub fn from_scratch(kind: u32, function: u32) -> Option<u32> {
+    let place = wrapping_sub_usize(function as usize, 6);
+    if place < VECTORS.len() {
+        Some((kind << 28) | (function << 23) | VECTORS[place])
+    } else {
+        None
+    }
 }
 
 // The glue count's word.

@@ -8,6 +8,8 @@ use std::marker::Model;
 const ROOM: usize = 1024;
 
 // What stands so far.
+// Kept: a fixed room, since no heap is a rule of the project. What is left of it is less after each put, so what puts a text asks for the
+// room of that text; a type for what is left would be made anew at each put.
 #[derive(Drop)]
 pub struct Text {
     bytes: [u8; ROOM],
@@ -43,6 +45,7 @@ fn glyph(digit: u64) -> u8
 }
 
 // How many decimal digits a number has.
+#[tactic(auto, using(crate::proofs::Digits::count_ends, crate::proofs::Digits::count_goes_on, crate::proofs::Digits::count_full))]
 fn digit_count(n: u64) -> usize
     ensures { (result ≡ T.digits_in 20 n) × (result ≤ 20) }
 {

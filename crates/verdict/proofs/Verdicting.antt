@@ -7,6 +7,8 @@ use borrow.Author.Tests.{eq-eqb, eqb-true}
 use borrow.Author.Rules.{rules}
 use Rattle.std.specs.Prelude.{Option, Some, None, IsSome, if◌then◌else◌}
 use Rattle.words.specs.declared.Witness.{Witness}
+use Rattle.words.specs.declared.port.Port.{Port}
+use Rattle.words.specs.declared.port.Port.TheVariants.{O0, Ocout, Ovf, O1}
 use Rattle.words.proofs.Choices.{beq-true, beq-refl, false_of}
 use Rattle.bits.specs.declared.Ports.{Ports}
 use Rattle.binding.specs.Binding.{side_shows, shows}
@@ -28,12 +30,9 @@ module _ (p q : Ports) where
   some-differs ne =
       go (eqb p.o0 q.o0) refl (beq p.ocout q.ocout) refl (beq p.ovf q.ovf) refl (beq p.o1 q.o1) refl
     where
-      some : ℕ → Option ℕ
-      some k = Some k
-
       go : (a : Bool) → eqb p.o0 q.o0 ≡ a → (b : Bool) → beq p.ocout q.ocout ≡ b
           → (c : Bool) → beq p.ovf q.ovf ≡ c → (d : Bool) → beq p.o1 q.o1 ≡ d
-          → IsSome (if not a then some 0 else if not b then some 1 else if not c then some 2 else if not d then some 3 else None)
+          → IsSome (if not a then Some O0 else if not b then Some Ocout else if not c then Some Ovf else if not d then Some O1 else None)
       go false ea b eb c ec d ed = search rules
       go true ea false eb c ec d ed = search rules
       go true ea true eb false ec d ed = search rules
@@ -61,7 +60,7 @@ module _ (c : Claim) (n : ℕ) (o : Option Counterexample) (found : Found c.sour
   found_as k e = subst (λ (x : Option Counterexample). Found c.source c.recipe n x) e found
 
   module _ (x : Counterexample) (e : o ≡ Some x) where
-    module _ (p q : Ports) (port : Option ℕ) (ep : p ≡ shows c.recipe n x.left x.right x.carry)
+    module _ (p q : Ports) (port : Option Port) (ep : p ≡ shows c.recipe n x.left x.right x.carry)
         (eq : (q ≡ side_shows c.source n x.left x.right x.carry) × (q.o0 < 2 ^ n)) (eport : port ≡ lowest_port p q) where
       pub is_some_port : IsSome port
       is_some_port = subst IsSome (sym (eport ∙ ap₂ lowest_port ep eq.0)) (some-differs _ _ (found_as (Some x) e).2)

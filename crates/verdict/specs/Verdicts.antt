@@ -3,10 +3,12 @@ use Rattle.std.specs.Prelude.{ℕ, ◌^◌, ◌<◌, ◌≡◌, not, [], ◌∷�
 use Rattle.std.specs.Bool.{beq}
 use Rattle.words.specs.Field.{kind_of}
 use Rattle.words.specs.Kinds.{is_recipe}
-use Rattle.words.specs.Paper.{Paper, refusal, accepted, refused_with, told}
+use Rattle.words.specs.Paper.{Paper, port_number, refusal, accepted, refused_with, told}
 use Rattle.words.specs.declared.Refusal.{Refusal}
 use Rattle.words.specs.declared.Fault.{Fault}
 use Rattle.words.specs.declared.Witness.{Witness}
+use Rattle.words.specs.declared.port.Port.{Port}
+use Rattle.words.specs.declared.port.Port.TheVariants.{O0, Ocout, Ovf, O1}
 use Rattle.bits.specs.Bits.{num}
 use Rattle.alu.specs.Range.{is_width}
 use Rattle.bits.specs.declared.Ports.{Ports}
@@ -18,13 +20,13 @@ use Rattle.verdict.specs.declared.Verdict.{Verdict}
 use Rattle.verdict.specs.declared.Verdict.TheVariants.{Right as IsRight, Wrong}
 use Rattle.words.specs.declared.Fault.TheVariants.{NotLaidOut, OutOfSequence}
 
--- "port (0 O0, 1 OCOUT, 2 OVF, 3 O1) ... Of the ports that differ there, the lowest"
-unfoldable pub lowest_port : Ports → Ports → Option ℕ
+-- "Of the ports that differ there, the lowest"
+unfoldable pub lowest_port : Ports → Ports → Option Port
 lowest_port p q =
-    if not (eqb p.o0 q.o0) then Some 0
-    else if not (beq p.ocout q.ocout) then Some 1
-    else if not (beq p.ovf q.ovf) then Some 2
-    else if not (beq p.o1 q.o1) then Some 3
+    if not (eqb p.o0 q.o0) then Some O0
+    else if not (beq p.ocout q.ocout) then Some Ocout
+    else if not (beq p.ovf q.ovf) then Some Ovf
+    else if not (beq p.o1 q.o1) then Some O1
     else None
 
 -- "every choice is in range, makes a port of the named function's binding differ, and comes with the lowest port that differs there"
@@ -42,7 +44,7 @@ Says c n (Wrong v) = Differs c n v
 
 -- "10. A wrong recipe; place: its function .., with port .., left, right, carry."
 abbrev pub wrong_paper : Witness → Paper
-wrong_paper v = refused_with 10 v.function (v.port ∷ v.left ∷ v.right ∷ num v.carry ∷ [])
+wrong_paper v = refused_with 10 v.function (port_number v.port ∷ v.left ∷ v.right ∷ num v.carry ∷ [])
 
 -- the verdict in document 01's numbers
 abbrev pub verdict_paper : Verdict → Paper

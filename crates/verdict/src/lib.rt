@@ -8,7 +8,7 @@ ghost use Rattle.verdict.specs.Verdicts as D;
 use binding::Claim;
 use bits::{Operands, Ports, Width};
 use search::Counterexample;
-use words::{Fault, Refusal, Witness};
+use words::{Fault, Port, Refusal, Witness};
 
 // Right, or Wrong with function, port, both operands and carry.
 // Kept: document 01 names this form: "verdict enum: Right, or Wrong with its values".
@@ -20,25 +20,26 @@ pub enum Verdict {
 
 // The lowest port at which two differ.
 #[tactic(auto, unfolding(crate::specs::Verdicts::lowest_port))]
-fn lowest_port(p: Ports, q: Ports) -> Option<u32>
+fn lowest_port(p: Ports, q: Ports) -> Option<Port>
     ensures { result ≡ D.lowest_port p q }
 {
     if p.o0 != q.o0 {
-        return Some(0);
+        return Some(Port::O0);
     }
     if p.ocout != q.ocout {
-        return Some(1);
+        return Some(Port::Ocout);
     }
     if p.ovf != q.ovf {
-        return Some(2);
+        return Some(Port::Ovf);
     }
     if p.o1 != q.o1 {
-        return Some(3);
+        return Some(Port::O1);
     }
     None
 }
 
 // The verdict on a claim. Of a wrong one the operands are those that the search meets first.
+#[tactic(auto, using(crate::proofs::Verdicting::is_some_port))]
 pub fn verdict_on(claim: Claim, width: Width) -> Verdict
     ensures { D.Says claim width.n result }
 {
@@ -61,6 +62,7 @@ pub fn verdict_on(claim: Claim, width: Width) -> Verdict
 }
 
 // Whether a claim holds.
+#[tactic(auto, using(crate::proofs::Verdicting::right_says, crate::proofs::Verdicting::wrong_says))]
 pub fn is_right(claim: Claim, width: Width) -> bool
     ensures { result ≡ R.is_right claim width.n }
 {

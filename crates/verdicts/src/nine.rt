@@ -83,20 +83,12 @@ impl Recipes {
 
     // Ends a line that begins with the recipes' name.
     pub fn report(&self, rt: &HostRuntime) {
-        say::line(
-            rt,
-            b": # recipes at nine widths, # compared, # differ; right at all #, at width 1 only #, at none #; by width",
-            &[
-                self.recipes,
-                self.tally.compared,
-                self.tally.differ,
-                self.always,
-                self.narrow,
-                self.never,
-            ],
+        let _ = print!(rt;
+            ": {} recipes at nine widths, {}; right at all {}, at width 1 only {}, at none {}; by width",
+            self.recipes, self.tally, self.always, self.narrow, self.never
         );
         for (n, count) in WIDTHS.iter().zip(&self.by_width) {
-            say::line(rt, b" #: #", &[*n as u64, *count]);
+            let _ = print!(rt; " {n}: {count}");
         }
         say::text(rt, b"\n");
     }

@@ -10,6 +10,7 @@ use testing::say;
 use testing::tally::{Tally, more};
 
 // The kinds of functions, and from scratch, which is a target alone.
+// Kept: not `alu::Kind`, which has what its functions need; here a kind is a name.
 #[derive(Clone, Copy, PartialEq, Eq)]
 enum Kind {
     Arithmetic,
@@ -137,16 +138,9 @@ impl Pairing {
     // A line for the pairing, and one for those judged at nine widths, where there are any.
     fn report(self, rt: &HostRuntime, these: Counts) {
         self.say(rt);
-        say::line(
-            rt,
-            b": # recipes at widths 1 and 2, # compared, # differ; right at 1: #, at 2: #\n",
-            &[
-                these.recipes,
-                these.tally.compared,
-                these.tally.differ,
-                these.one,
-                these.two,
-            ],
+        let _ = println!(rt;
+            ": {} recipes at widths 1 and 2, {}; right at 1: {}, at 2: {}",
+            these.recipes, these.tally, these.one, these.two
         );
         if !these.nine.is_none() {
             self.say(rt);

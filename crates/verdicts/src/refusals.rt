@@ -129,19 +129,9 @@ fn report(rt: &HostRuntime, name: &[u8], all: Numbers) {
     let tally = all.tally;
     let by = all.by;
     say::text(rt, name);
-    say::line(
-        rt,
-        b": # compared, # differ; refused 2: #, 3: #, 5: #, 6: #, 3 for the width: #, not refused: #\n",
-        &[
-            tally.compared,
-            tally.differ,
-            by[2],
-            by[3],
-            by[5],
-            by[6],
-            by[1],
-            by[0],
-        ],
+    let _ = println!(rt;
+        ": {tally}; refused 2: {}, 3: {}, 5: {}, 6: {}, 3 for the width: {}, not refused: {}",
+        by[2], by[3], by[5], by[6], by[1], by[0]
     );
 }
 

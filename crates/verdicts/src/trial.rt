@@ -1,15 +1,10 @@
 // One verdict of the judge, tried by the reference. A right one is tried at operands, all of them at small widths. A wrong one is tried
 // at its own operands, so it is borne out only if the recipe is wrong.
 use reference::answer::{Refusal, Subject, wrong};
-use reference::trial::{Witness, bears_out, is_right};
+use reference::trial::is_right;
 use testing::say;
 use testing::tally::Tally;
 use verdict::Verdict;
-
-// Whether a witness shows that a recipe is wrong at a width.
-fn is_shown(word: u32, n: u32, witness: words::Witness) -> bool {
-    bears_out(word, n, told::witness_of(witness))
-}
 
 fn of_verdict(verdict: Verdict, word: u32, n: u32) -> Result<(), Refusal> {
     match verdict {
@@ -17,7 +12,7 @@ fn of_verdict(verdict: Verdict, word: u32, n: u32) -> Result<(), Refusal> {
         Verdict::Wrong(witness) => Err(wrong(
             Subject::Word,
             witness.function,
-            is_shown(word, n, witness),
+            told::is_shown(word, n, witness),
         )),
     }
 }
@@ -52,19 +47,16 @@ pub fn tried(word: u32, n: u32) -> Trial {
 }
 
 // Of no refusal 0 and 0.
-fn numbers_of(refusal: Option<Refusal>) -> [u64; 2] {
-    match refusal {
-        Some(refusal) => [refusal.number as u64, refusal.place as u64],
-        None => [0, 0],
-    }
+fn numbers_of(refusal: Option<Refusal>) -> (u32, usize) {
+    refusal.map_or((0, 0), |refusal| (refusal.number, refusal.place))
 }
 
 fn say_difference(rt: &HostRuntime, word: u32, n: u32) {
     say::word(rt, b"differs: ", word);
-    say::count(rt, b" at width ", n as u64);
-    say::line(rt, b"; judge: # #", &numbers_of(judged(word, n).err()));
-    let second = reference::refusal::refusal_of(word, n);
-    say::line(rt, b"; reference: # #\n", &numbers_of(second));
+    let (number, place) = numbers_of(judged(word, n).err());
+    let _ = print!(rt; " at width {n}; judge: {number} {place}");
+    let (number, place) = numbers_of(reference::refusal::refusal_of(word, n));
+    let _ = println!(rt; "; reference: {number} {place}");
 }
 
 // One comparison more. The first difference of a tally is written out.

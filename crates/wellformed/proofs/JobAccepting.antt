@@ -7,13 +7,15 @@ use native.Mathlib.Nat.{add-zero}
 use native.Mathlib.Omega.{arith}
 use lib.ListN.{length, drop, get_or, drop_of_length-le, length-append, get_or-append}
 use lib.Seq.{get_or-append-add}
+use borrow.Author.Tests.{le-ltb}
 use Rattle.words.specs.Field.{field, content_of}
 use Rattle.words.specs.Kinds.{HEADER, PRICES, SOURCE, TARGET}
 use Rattle.words.specs.declared.kind.WordKind.TheVariants.{Source, Target}
 use Rattle.sequence.specs.Limits.{most_sources, most_targets}
 use Rattle.reader.specs.Starts.{rules_start}
 use Rattle.grammar.specs.Reading.{beginning, after, reading}
-use Rattle.reader.specs.Job.{WellFormedJob}
+use Rattle.reader.specs.Words.{words_read}
+use Rattle.reader.specs.Job.{job_facts, job_of, WellFormedJob}
 use Rattle.sequence.specs.declared.File.TheVariants.{AsJob}
 use Rattle.sequence.specs.declared.State.{State}
 use Rattle.std.specs.Prelude.{Ok}
@@ -24,9 +26,12 @@ use Rattle.wellformed.proofs.Parts.{Entry, kind_of-laid, content_of-laid}
 use Rattle.wellformed.proofs.Headers.{the_width, the_book, fits_a_job}
 use Rattle.wellformed.proofs.JobWords.{JobFacts}
 use Rattle.reader.proofs.Limits.{some_words}
-use Rattle.reader.proofs.JobAnswers.{accepted}
 use Rattle.wellformed.proofs.MappingAccepting.{passes}
 use Rattle.wellformed.proofs.JobParts.{Reaches, InSources, InTargets, InRules, free_header, free_prices, through_sources, through_targets, through_rules}
+
+said : (ws : List ℕ) (s : State) → words_read AsJob ws ≡ Ok s → 1 ≤ s.sources → job_of ws ≡ Ok (job_facts (get_or ws 0 0) (get_or ws 1 0) s)
+unfolding job_of
+said ws s e h = rw (e, le-ltb s.sources 1 h) refl
 
 module _ (ws : List ℕ) (job : Job) (q : JobFacts ws job) where
   -- after the header and the prices
@@ -75,21 +80,20 @@ module _ (ws : List ℕ) (job : Job) (q : JobFacts ws job) where
       let z : drop (rules_start job + job.rules) ws ≡ [] = drop_of_length-le ws {i = rules_start job + job.rules} (omega (arith, q.size)) in
       let read = a.read ∙ b.read ∙ c.read ∙ d.read ∙ ap (reading AsJob d.end (rules_start job + job.rules)) z in
       let words = some_words AsJob ws (omega (arith, q.size)) (omega (arith, q.size)) ∙ read in
-      let width = sym (the_width (get_or ws 0 0) job.width job.book q.header q.width_least q.width_most) in
-      let book = sym (the_book (get_or ws 0 0) job.width job.book q.header q.width_least q.width_most) in
-      let inverter : job.prices.inverter ≡ field (get_or ws 1 0) 16 8 = omega (arith, q.prices) in
-      let gate : job.prices.gate ≡ field (get_or ws 1 0) 8 8 = omega (arith, q.prices) in
-      let multiplexer : job.prices.multiplexer ≡ field (get_or ws 1 0) 0 8 = omega (arith, q.prices) in
-      sym
-      (accepted ws (Ok d.end) (sym words) d.end refl (omega (arith, d.holds.sources, q.sources_least)) job
-      (λ x. record {
+      let width = the_width (get_or ws 0 0) job.width job.book q.header q.width_least q.width_most in
+      let book = the_book (get_or ws 0 0) job.width job.book q.header q.width_least q.width_most in
+      let inverter : field (get_or ws 1 0) 16 8 ≡ job.prices.inverter = omega (arith, q.prices) in
+      let gate : field (get_or ws 1 0) 8 8 ≡ job.prices.gate = omega (arith, q.prices) in
+      let multiplexer : field (get_or ws 1 0) 0 8 ≡ job.prices.multiplexer = omega (arith, q.prices) in
+      said ws d.end words (omega (arith, d.holds.sources, q.sources_least))
+      ∙ ap Ok (λ x. record {
         width = width x;
         prices = record { inverter = inverter x; gate = gate x; multiplexer = multiplexer x };
-        sources = sym d.holds.sources x;
-        targets = sym d.holds.targets x;
-        rules = sym d.holds.rules x;
+        sources = d.holds.sources x;
+        targets = d.holds.targets x;
+        rules = d.holds.rules x;
         book = book x;
-      }))
+      })
 
 -- ---- words laid one after another: a header, prices, sources and targets
 

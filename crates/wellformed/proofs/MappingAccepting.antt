@@ -7,7 +7,7 @@ use native.Mathlib.Numerals.{one-add}
 use native.Mathlib.Omega.{arith}
 use lib.ListN.{length, drop, get_or, drop_of_length-le, length-append, get_or-append}
 use lib.Seq.{get_or-append_seam}
-use borrow.Author.Tests.{lt-ltb, eq-eqb}
+use borrow.Author.Tests.{lt-ltb}
 use Rattle.words.specs.Field.{field, kind_of, content_of}
 use Rattle.words.proofs.Choices.{and_join}
 use Rattle.words.proofs.Lists.{drop-next}
@@ -17,7 +17,8 @@ use Rattle.words.specs.declared.kind.WordKind.TheVariants.{Header, Binding, Glue
 use Rattle.sequence.specs.Limits.{most_bindings}
 use Rattle.sequence.specs.Sequence.{stage_of, mapping_sequence, in_sequence}
 use Rattle.grammar.specs.Reading.{rises, beginning, after, function_in, reading}
-use Rattle.reader.specs.Mapping.{WellFormedMapping}
+use Rattle.reader.specs.Words.{words_read}
+use Rattle.reader.specs.Mapping.{mapping_facts, mapping_of, WellFormedMapping}
 use Rattle.sequence.specs.declared.File.{File}
 use Rattle.sequence.specs.declared.File.TheVariants.{AsMapping}
 use Rattle.sequence.specs.declared.State.{State}
@@ -29,7 +30,11 @@ use Rattle.grammar.proofs.Faultless.{Faultless, no_fault}
 use Rattle.wellformed.proofs.Words.{is_width_lem, width_whole, no_outputs, recipe_outputs, function_of-binding, rises_above}
 use Rattle.wellformed.proofs.MappingWords.{Open, by_open, MappingFacts}
 use Rattle.reader.proofs.Limits.{some_words}
-use Rattle.reader.proofs.MappingAnswers.{accepted}
+
+said : (ws : List ℕ) (s : State) → words_read AsMapping ws ≡ Ok s → stage_of s ≡ GLUE
+    → mapping_of ws ≡ Ok (mapping_facts (get_or ws 0 0) (get_or ws (length ws - 1) 0) s)
+unfolding mapping_of
+said ws s e h = rw (e, h) refl
 
 -- ---- one word
 
@@ -163,15 +168,13 @@ module _ (ws : List ℕ) (mapping : Mapping) (q : MappingFacts ws mapping) where
   pub accepts : WellFormedMapping ws mapping
   accepts =
       let c = after-header in
-      let width : mapping.width ≡ field (get_or ws 0 0) 0 7
-      = sym q.header ∙ width_whole (get_or ws 0 0) (record { least = omega arith; most = omega arith }) in
-      let last : 1 + mapping.bindings ≡ length ws - 1 = omega (arith, q.size) in
-      let glue : mapping.glue ≡ field (get_or ws (length ws - 1) 0) 0 28
-      = sym q.glue ∙ ap (λ (x : ℕ). content_of (get_or ws x 0)) last in
+      let width : field (get_or ws 0 0) 0 7 ≡ mapping.width
+      = sym (width_whole (get_or ws 0 0) (record { least = omega arith; most = omega arith })) ∙ q.header in
+      let last : length ws - 1 ≡ 1 + mapping.bindings = omega (arith, q.size) in
+      let glue : field (get_or ws (length ws - 1) 0) 0 28 ≡ mapping.glue
+      = ap (λ (x : ℕ). content_of (get_or ws x 0)) last ∙ q.glue in
       let words = some_words AsMapping ws (omega (arith, q.size)) (omega (arith, q.size, q.bindings_most)) ∙ c.ends in
-      sym
-      (accepted ws (Ok c.end) (sym words) c.end refl _ refl mapping (eq-eqb (stage_of c.end) GLUE c.closed)
-      (λ x. record { width = width x; bindings = sym c.bound x; glue = glue x }))
+      said ws c.end words c.closed ∙ ap Ok (λ x. record { width = width x; bindings = c.bound x; glue = glue x })
 
 -- ---- words written one after another: a header, bindings and a glue count
 

@@ -26,7 +26,7 @@ use Rattle.std.specs.Prelude.{Result, Ok, Err}
 use Rattle.reader.specs.declared.Mapping.{Mapping}
 use Rattle.reader.proofs.Limits.{were_read}
 use Rattle.alu.proofs.Shown.{width_of}
-use Rattle.wellformed.proofs.Parts.{Each, Rising, RecipeWord, word_of-kind, each_none, each_more, rising_none, rising_more, rising_as}
+use Rattle.wellformed.proofs.Parts.{Each, Rising, RecipeWord, each_none, each_more, rising_none, rising_more, rising_as}
 use Rattle.grammar.proofs.Faultless.{Faultless, passed}
 use Rattle.wellformed.proofs.Words.{Last, HeaderFirst, header_first, last_more, width_whole, binding_word, function_of-binding, risen}
 
@@ -157,11 +157,6 @@ pub record MappingFacts (ws : List ℕ) (mapping : Mapping) : Type 0 where
   pub bindings_rise : Rising source_of ws bindings_start mapping.bindings
   pub glue_kind : kind_of (get_or ws (bindings_start + mapping.bindings) 0) ≡ GLUE
   pub glue : content_of (get_or ws (bindings_start + mapping.bindings) 0) ≡ mapping.glue
-
--- the header of a mapping whose first word is one of a slice
-pub header_word : (ws : List ℕ) (mapping : Mapping) → MappingFacts ws mapping → get_or ws 0 0 < 2 ^ 32
-    → get_or ws 0 0 ≡ HEADER * 2 ^ 28 + mapping.width
-header_word ws mapping h l = omega (arith, word_of-kind HEADER (get_or ws 0 0) h.header_kind l, h.header)
 
 pub glue_fits_lem : (ws : List ℕ) (mapping : Mapping) → MappingFacts ws mapping → mapping.glue < 2 ^ 28
 glue_fits_lem ws mapping h = omega (arith, h.glue, field_lt (get_or ws (1 + mapping.bindings) 0) 0 28)

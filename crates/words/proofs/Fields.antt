@@ -3,7 +3,7 @@ use mathlib.Core.Path.{◌≡◌, ap, sym, ◌∙◌}
 use Prim.Native.Nat.{ℕ, ◌+◌, ◌-◌, ◌*◌, ◌/◌, ◌%◌, ◌^◌, ◌<◌, ◌≤◌}
 use native.Mathlib.Omega.{arith}
 use native.Mathlib.Nat.{add-zero, div-one, mod-lt}
-use lib.Bits.{bit_or, or_shifted}
+use lib.Bits.{bit_or, and_mask, or_shifted}
 use lib.Pow.{split, shl_exact, shl_lt, pow_pos, mod-mod-pow, field as cut-Shr}
 use Rattle.words.specs.Field.{field, content_of}
 
@@ -32,3 +32,5 @@ onto {n} {m} k b e z h =
 -- the same with x of j bits shifted by k in 32 bits
 pub laid : {n m : ℕ} (x j k : ℕ) → n ≡ m → m % 2 ^ (j + k) ≡ 0 → x < 2 ^ j → j + k ≤ 32 → bit_or n (x * 2 ^ k % 2 ^ 32) ≡ m + x * 2 ^ k
 laid {n} {m} x j k e z h w = ap (λ t. bit_or n t) (shl_exact j k 32 h w) ∙ onto (j + k) (x * 2 ^ k) e z (shl_lt j k h)
+
+pub ruleset masks = (div-one, and_mask)

@@ -1,15 +1,19 @@
 -- A number is a kind's, or no kind's.
 use mathlib.Core.Path.{◌≡◌, refl, sym, ap, ◌∙◌}
 use mathlib.Core.Bool.{Bool, true, false}
-use Prim.Native.Nat.{ℕ, ◌<◌, ◌^◌}
+use Prim.Native.Nat.{ℕ, ◌*◌, ◌%◌, ◌^◌, ◌<◌}
 use native.Mathlib.Omega.{arith}
+use lib.Bits.{bit_or}
 use lib.Dec.{eqb}
+use lib.Pow.{shl_exact}
 use borrow.Author.Tests.{eqb-true, ne_eqb}
 use Rattle.std.specs.Prelude.{Option, Some, None, if◌then◌else◌}
 use Rattle.words.specs.declared.kind.WordKind.{WordKind}
 use Rattle.words.specs.declared.kind.WordKind.TheVariants.{Header, Prices, Source, Target, Rule, Binding, Glue}
+use Rattle.words.specs.Field.{word_of}
 use Rattle.words.specs.Kinds.{HEADER, PRICES, SOURCE, TARGET, RULE, BINDING, GLUE, kind_number, kind_named, is_recipe}
 use Rattle.words.proofs.Choices.{either}
+use Rattle.words.proofs.Fields.{onto}
 
 -- a kind has the number that names it
 pub named_back : (k : WordKind) → kind_named (kind_number k) ≡ Some k
@@ -72,3 +76,9 @@ is_recipe_named n k b e h = rw (named n k e) h
 pub is_recipe_unnamed : (n : ℕ) → kind_named n ≡ None → false ≡ is_recipe n
 unfolding is_recipe
 is_recipe_unnamed n e = rw (no_kind n e Rule, no_kind n e Binding) refl
+
+-- a kind laid on a content
+pub kind_laid : (n c : ℕ) (k : WordKind) → n ≡ kind_number k → c < 2 ^ 28 → bit_or (n * 2 ^ 28 % 2 ^ 32) c ≡ word_of (kind_number k) c
+kind_laid n c k e h =
+    ap (λ (x : ℕ). bit_or (x * 2 ^ 28 % 2 ^ 32) c) e
+    ∙ onto 28 c (shl_exact 4 28 32 (kind_small k) (omega arith)) (omega arith) h

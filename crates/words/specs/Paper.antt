@@ -4,6 +4,8 @@ use Rattle.std.specs.Prelude.{ℕ, List, [], ◌∷◌, Option, Some, None, Resu
 use Rattle.words.specs.declared.Refusal.{Refusal}
 use Rattle.words.specs.declared.Fault.{Fault}
 use Rattle.words.specs.declared.Fault.TheVariants as F
+use Rattle.words.specs.declared.port.Port.{Port}
+use Rattle.words.specs.declared.port.Port.TheVariants.{O0, Ocout, Ovf, O1}
 
 -- "1. No words, over 568 in a job or over 29 in a mapping" .. "24": the numbers of refusals
 abbrev pub number_of : Fault → ℕ
@@ -24,6 +26,13 @@ number_of F.AlreadyBound = 21
 number_of F.Unbound = 22
 number_of F.TooFewWords = 23
 number_of F.NotBound = 24
+
+-- "port (0 O0, 1 OCOUT, 2 OVF, 3 O1)"
+abbrev pub port_number : Port → ℕ
+port_number O0 = 0
+port_number Ocout = 1
+port_number Ovf = 2
+port_number O1 = 3
 
 -- "Every refusal gives number and place"
 abbrev pub refusal : Fault → ℕ → Refusal

@@ -1,5 +1,5 @@
 // The kind of a word: its top four bits.
-ghost use Rattle.std.specs.Prelude.{◌≡◌, ◌<◌, ◌^◌};
+ghost use Rattle.std.specs.Prelude.{◌≡◌, ◌<◌, ◌^◌, None, Some, IfNone, IfSome};
 ghost use Rattle.words.specs.Field.{kind_of, word_of};
 ghost use Rattle.words.specs.Kinds.{kind_number, kind_named, is_recipe};
 
@@ -49,6 +49,7 @@ pub fn kind_of(word: u32) -> Option<WordKind>
 }
 
 // The word of a kind and a content.
+#[tactic(auto, using(crate::proofs::Named::kind_laid))]
 pub fn word_of(kind: WordKind, content: u32) -> u32
     requires { content < 2 ^ 28 }
     ensures { result ≡ word_of (kind_number kind) content }
@@ -77,5 +78,24 @@ pub fn is_recipe(word: u32) -> bool
     match kind_of(word) {
         Some(kind) => kind.is_recipe(),
         None => false,
+    }
+}
+
+// A word of a kind that document 01 names.
+#[derive(Clone, Copy)]
+pub struct Word {
+    pub bits: u32,
+    pub kind: WordKind,
+    pub ghost of_kind: { kind_of bits ≡ kind_number kind },
+}
+
+impl Word {
+    // These bits as a word, if they are one of a kind.
+    pub fn of(bits: u32) -> Option<Word>
+        ensures unnamed { IfNone result (kind_named (kind_of bits) ≡ None) }
+        ensures named { IfSome result (λ word. (word.bits ≡ bits) × (kind_named (kind_of bits) ≡ Some word.kind)) }
+    {
+        let kind = kind_of(bits)?;
+        Some(Word { bits, kind })
     }
 }

@@ -3,12 +3,14 @@
 #![tactic(auto)]
 
 mod kind;
+mod port;
 
 ghost use Rattle.std.specs.Prelude.{◌≡◌};
 ghost use Rattle.words.specs.Field.{content_of, source_function, target_function};
 ghost use Rattle.words.specs.Paper.{number_of};
 
-pub use kind::{WordKind, is_recipe, kind_of, word_of};
+pub use kind::{Word, WordKind, is_recipe, kind_of, word_of};
+pub use port::Port;
 
 // Why something is refused, in the order of document 01's numbers: 1 to 12, and 20 to 24 from `NotSound` on.
 #[derive(Clone, Copy, PartialEq, Eq)]
@@ -66,12 +68,11 @@ impl From<Fault> for u32 {
     }
 }
 
-// What comes with refusal 10: the function as refusals write it, the lowest port that differs (0 O0, 1 OCOUT, 2 OVF, 3 O1), and operands
-// and a carry at which it does.
+// What comes with refusal 10: the function as refusals write it, the lowest port that differs, and operands and a carry at which it does.
 #[derive(Clone, Copy)]
 pub struct Witness {
     pub function: u32,
-    pub port: u32,
+    pub port: Port,
     pub left: u64,
     pub right: u64,
     pub carry: bool,
@@ -86,6 +87,7 @@ pub struct Prices {
 }
 
 // The 28 bits below the kind.
+#[tactic(auto, using(crate::proofs::Fields::masks))]
 pub fn content_of(word: u32) -> u32
     ensures { result ≡ content_of word }
 {

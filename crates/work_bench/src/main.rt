@@ -7,7 +7,6 @@ ghost use Rattle.sequence.specs.Limits.{most_mapping_words};
 
 use bench::Bench;
 use commands::Line;
-use input::KEPT_WORDS;
 use sequence::MOST_MAPPING_WORDS;
 use text::Text;
 
@@ -26,6 +25,7 @@ fn save(rt: &HostRuntime, words: &[u32])
 // The bench after a line, which is answered. There is none where the answer cannot be printed.
 fn answer(rt: &HostRuntime, bench: Bench, line: Line) -> Option<Bench> {
     let command = commands::command_in(line);
+    // Kept: lent words and how many were written, as document 01 has a mapping written.
     let mut lent = [0u32; MOST_MAPPING_WORDS];
     let mut text = Text::new();
     let worked = bench_answers::work(bench, command, &mut lent, &mut text);
@@ -83,11 +83,9 @@ fn main(rt: HostRuntime) {
 
 // Opens the job and works on its bench.
 fn open_and_work(rt: &HostRuntime) {
-    let mut job = [0u32; KEPT_WORDS];
-    let input = input::read_file(rt, 1, &mut job);
-    let kept = input::kept(input);
+    let input = input::read_file(rt, 1);
     let mut text = Text::new();
-    let opened = bench_answers::open(&job[..kept], input, &mut text);
+    let opened = bench_answers::open(input, &mut text);
     if !console::print(rt, text.as_bytes()) {
         return;
     }

@@ -1,5 +1,5 @@
 -- The words written so far and those still to come.
-use mathlib.Core.Path.{◌≡◌, refl, ap, ◌∙◌}
+use mathlib.Core.Path.{◌≡◌, refl, ap}
 use mathlib.Core.List.{List, [], ◌∷◌, ◌++◌}
 use Prim.Native.Nat.{ℕ, zero, suc, ◌+◌, ◌≤◌, ◌<◌}
 use native.Mathlib.Nat.{zero-add}
@@ -10,11 +10,8 @@ use lib.Seq.{sets, sets-eq}
 use Rattle.words.specs.Field.{word_of}
 use Rattle.words.proofs.Lists.{drop-next}
 use Rattle.words.specs.Kinds.{HEADER, GLUE}
-use Rattle.words.specs.Paper.{refusal}
 use Rattle.reader.specs.Starts.{bindings_start}
-use Rattle.writer.specs.Write.{binding_word, binding_words, mapping_words, words_needed, written_of, lent_after}
-use Rattle.std.specs.Prelude.{Ok, Err}
-use Rattle.words.specs.declared.Fault.TheVariants.{TooFewWords}
+use Rattle.writer.specs.Write.{binding_word, binding_words, mapping_words, lent_after}
 
 pub bindings_length : (ws : List ℕ) → length (binding_words ws) ≡ length ws
 unfolding binding_words
@@ -40,34 +37,23 @@ module _ (bound : List ℕ) (i : ℕ) (lent rest whole : List ℕ) (e : sets len
   binding_written w h ew =
       let z : bindings_start + (i + 1) ≡ suc (bindings_start + i) = omega arith in rw (ew, z) (rw (drop-next bound i h) at e)
 
-pub glue_written : (bound : List ℕ) (i : ℕ) (lent whole : List ℕ) (g w : ℕ) → sets lent (bindings_start + i) (binding_words (drop i bound) ++ (g ∷ [])) ≡ whole
-    → length bound ≤ i → i ≤ length bound → w ≡ g → set lent (bindings_start + length bound) w ≡ whole
+pub glue_written : (bound : List ℕ) (i : ℕ) (lent : List ℕ) (g : ℕ) → length bound ≤ i
+    → sets lent (bindings_start + i) (binding_words (drop i bound) ++ (g ∷ [])) ≡ set lent (bindings_start + i) g
 unfolding binding_words
-glue_written bound i lent whole g w e h l ew =
-    let k : length bound ≡ i = omega arith in rw (ew, k) (rw (drop_of_length-le bound h) at e)
+glue_written bound i lent g h = rw (drop_of_length-le bound h) refl
 
--- ---- the answer
+-- ---- the lent words after
 
-module _ (width glue needed : ℕ) (bound lent : List ℕ) (en : needed ≡ words_needed (length bound)) where
-  pub too_few : length lent < needed → Err (refusal TooFewWords needed) ≡ written_of (length bound) lent
-  unfolding written_of
-  too_few h = rw (← en) (rw (lt-ltb (length lent) needed h) refl)
-
-  pub kept : length lent < needed → lent ≡ lent_after (mapping_words width bound glue) lent
+module _ (width glue : ℕ) (bound lent : List ℕ) where
+  pub kept : length lent < length bound + 2 → lent_after (mapping_words width bound glue) lent ≡ lent
   unfolding lent_after
   kept h = rw (lt-ltb (length lent) (length (mapping_words width bound glue)) (omega (arith, mapping_length width glue bound))) refl
 
-  pub enough : needed ≤ length lent → Ok needed ≡ written_of (length bound) lent
-  unfolding written_of
-  enough h = rw (← en) (rw (le-ltb (length lent) needed h) refl)
-
-  pub all_written : (header : ℕ) (after : List ℕ) → needed ≤ length lent → header ≡ word_of HEADER width
-      → after ≡ sets (set lent 0 header) 1 (binding_words bound ++ (word_of GLUE glue ∷ []))
-      → after ≡ lent_after (mapping_words width bound glue) lent
+  pub all_written : length bound + 2 ≤ length lent
+      → lent_after (mapping_words width bound glue) lent ≡ sets (set lent 0 (word_of HEADER width)) 1 (binding_words bound ++ (word_of GLUE glue ∷ []))
   unfolding lent_after
-  all_written header after h eh ea =
-      rw (le-ltb (length lent) (length (mapping_words width bound glue)) (omega (arith, mapping_length width glue bound)))
-      (ea ∙ ap (λ (x : ℕ). sets (set lent 0 x) 1 (binding_words bound ++ (word_of GLUE glue ∷ []))) eh)
+  all_written h =
+      rw (le-ltb (length lent) (length (mapping_words width bound glue)) (omega (arith, mapping_length width glue bound))) refl
 
 -- ---- what a reader of the contract learns: the words come first, and nothing past them changes
 

@@ -24,6 +24,7 @@ pub fn binding_word(word: u32) -> u32
 }
 
 // Writes the mapping that binds each of these recipes, and answers how many words it has; or refusal 23 with the words needed.
+#[tactic(auto, using(crate::proofs::Writing::binding_written, crate::proofs::Writing::glue_written, crate::proofs::Writing::kept, crate::proofs::Writing::all_written), unfolding(crate::specs::Write::written_of))]
 pub fn write_mapping(
     width: u32,
     bound: &[u32],

@@ -14,14 +14,14 @@ none-few : 0 ≤ most_rules
 none-few = omega arith
 
 pub choose-requires : goal.choose-requires
-choose-requires c = (sources_few _ _ c.requires (terms_held c.terms_of-terms.result) _ c.terms_of-terms.ensures c.rules_of-rules.ensures, search (rules_few, book-few, none-few))
+choose-requires c = (sources_few _ _ c.args.read.now.well_formed (terms_held c.terms-terms.result) _ c.terms-terms.ensures c.rules-rules.ensures, search (rules_few, book-few))
 
-pub returns-then-job : goal.returns-then-job
+pub returns-then-read : goal.returns-then-read
 unfolding book
-returns-then-job c = search (kept_choice, book-asked)
+returns-then-read c = search (kept_choice, book-asked)
 
 pub choose-requires-2 : goal.choose-requires-2
-choose-requires-2 c = (sources_few _ _ c.requires (terms_held c.terms_of-terms.result) _ c.terms_of-terms.ensures c.rules_of-rules.ensures, search (rules_few, book-few, none-few))
+choose-requires-2 c = (sources_few _ _ c.args.read.now.well_formed (terms_held c.terms-terms.result) _ c.terms-terms.ensures c.rules-rules.ensures, search (rules_few, none-few))
 
 pub returns : goal.returns
 returns c = search (kept_choice, no_book)

@@ -1,6 +1,6 @@
 -- `writer::write_mapping` meets its contract.
-use Prim.Native.Nat.{◌+◌, ◌≤◌}
-use lib.ListN.{length, drop}
+use Prim.Native.Nat.{◌+◌}
+use lib.ListN.{drop}
 use lib.Seq.{sets}
 use mathlib.Core.List.{[], ◌∷◌, ◌++◌}
 use mathlib.Core.Path.{◌≡◌}
@@ -11,4 +11,6 @@ use Rattle.writer.specs.Write.{binding_words}
 use Rattle.writer.proofs.write_mapping.Given as goal
 
 abbrev pub invariant-loop-i : goal.invariant-loop-i
-invariant-loop-i l = (length l.lent ≡ length l.initial.lent) × (length l.bound + 2 ≤ length l.initial.lent) × (sets l.lent (bindings_start + l.i) (binding_words (drop l.i l.bound) ++ (word_of GLUE l.glue ∷ [])) ≡ sets l.initial.lent 1 (binding_words l.bound ++ (word_of GLUE l.glue ∷ [])))
+invariant-loop-i l =
+    sets l.lent (bindings_start + l.i) (binding_words (drop l.i l.bound) ++ (word_of GLUE l.glue ∷ []))
+    ≡ sets l.initial.lent 1 (binding_words l.bound ++ (word_of GLUE l.glue ∷ []))

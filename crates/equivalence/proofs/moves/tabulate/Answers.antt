@@ -16,11 +16,4 @@ loop-m-preserved c = let l = c.loop-m in
     )
 
 pub returns : goal.returns
-returns c = let l = c.loop-m in
-    let source = c.cells-source in
-    let target = c.cells-target in
-    record {
-      sizes = search rules;
-      moves = tabled_from move_by c.args.s c.args.t _ _ _ source.ensures target.ensures (λ k h. l.invariant.2 k (omega arith));
-      tops = tabled_from top_by c.args.s c.args.t _ _ _ source.ensures target.ensures (λ k h. l.invariant.3 k (omega arith));
-    }
+returns c = search tabled_from

@@ -6,4 +6,4 @@ use Rattle.equivalence.specs.Sets.{failing}
 use Rattle.equivalence.proofs.rounds.failing_sets.Given as goal
 
 abbrev pub invariant-loop-j : goal.invariant-loop-j
-invariant-loop-j l = (length l.sets ≡ 64) × (l.set ≡ failing l.tables.moves l.tables.tops l.j) × ((m : ℕ) → m < l.j + 1 → get_or l.sets m 0 ≡ failing l.tables.moves l.tables.tops m)
+invariant-loop-j l = (length l.sets ≡ 64) × (l.set ≡ failing l.tables l.j) × ((m : ℕ) → m < l.j + 1 → get_or l.sets m 0 ≡ failing l.tables m)

@@ -4,11 +4,8 @@ use Rattle.std.proofs.Common.{tests}
 use Rattle.std.proofs.lemmas.Iterator.{YieldsList-from_slice}
 use Rattle.std.proofs.lemmas.Iterator.Search.{any_from_yields_List}
 use Rattle.table.specs.Table.{lists_target}
-use Rattle.table.proofs.Entries.{from_scratch_lem, from_target_lem}
+use Rattle.table.proofs.Entries.{from_target_lem}
 use Rattle.table.proofs.terms.Terms.has_target.Goals as goal
-
-pub returns-then-from_scratch : goal.returns-then-from_scratch
-returns-then-from_scratch c = from_scratch_lem _ _ _ c.from_scratch.ensures c.if-from_scratch.true
 
 pub returns-else-from_scratch : goal.returns-else-from_scratch
 unfolding lists_target

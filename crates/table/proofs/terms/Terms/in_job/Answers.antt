@@ -1,19 +1,11 @@
 -- `table::terms::Terms::in_job` meets its contract.
 use borrow.Author.Rules.{rules}
-use mathlib.Core.Path.{◌≡◌}
 use Rattle.std.proofs.Common.{tests}
 use Rattle.std.proofs.lemmas.Iterator.{YieldsList-from_slice}
 use Rattle.std.proofs.lemmas.Iterator.Search.{any_from_yields_List}
 use Rattle.table.specs.Table.{lists_source}
-use Rattle.table.proofs.Entries.{source_absent, source_present}
+use Rattle.table.proofs.Entries.{source_absent}
 use Rattle.table.proofs.terms.Terms.in_job.Goals as goal
-
-pub returns-then-any : goal.returns-then-any
-unfolding lists_source
-returns-then-any c =
-    let e : c.any.result ≡ lists_source c.args.self.now.sources.now c.source_of-source.result =
-    any_from_yields_List _ _ _ _ c.any.ensures.ran (YieldsList-from_slice c.args.self.now.sources.now cc) (λ x b q k. search (rules, tests))
-    in search (source_present, e)
 
 pub returns-else-any : goal.returns-else-any
 unfolding lists_source

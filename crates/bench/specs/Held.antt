@@ -1,0 +1,16 @@
+-- What a test of soundness hands back, without the proof that it holds. Nobody has to believe this: the contracts of the calls speak of
+-- benches alone.
+use Rattle.std.specs.Prelude.{Result, Ok, Err}
+use Rattle.words.specs.declared.Refusal.{Refusal}
+use Rattle.bench.specs.Calls.{bench_with}
+use Rattle.bench.specs.declared.Bench.{Bench}
+use Rattle.bench.specs.declared.sound.SoundBench.{SoundBench}
+
+-- the bench that is held as a sound one
+abbrev pub bench_held : SoundBench → Bench
+bench_held s = bench_with s.tables.tables s.bound s.glue
+
+-- that bench, or why there is none
+abbrev pub held_or : Result SoundBench Refusal → Result Bench Refusal
+held_or (Ok s) = Ok (bench_held s)
+held_or (Err r) = Err r
