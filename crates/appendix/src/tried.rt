@@ -4,7 +4,6 @@ use crate::shown::Narrow;
 use reference::evaluator::Operands;
 use reference::recipe::first_difference;
 use reference::trial::{next, sampled};
-use testing::say;
 use testing::tally::Tally;
 
 const WIDTHS: [u32; 11] = [1, 2, 3, 4, 8, 16, 31, 32, 33, 63, 64];

@@ -65,10 +65,6 @@ abbrev pub next_of : Bench → Result Bench CallError → After ⊤
 next_of b (Ok next) = gives next (Ok tt)
 next_of b (Err e) = gives b (Err e)
 
--- "20. Bench not sound; place 0. Before all others."
-abbrev pub sound_check : Bench → Result Bench Refusal
-sound_check b = if not (sound_bench b) then Err (refusal NotSound 0) else Ok b
-
 -- ---- open: "Opening takes no bench and binds nothing; refused, it hands back one of zeros only"
 
 -- a bench with nothing bound: "The empty bench prices at 0."

@@ -3,7 +3,8 @@ ghost use Rattle.std.specs.Prelude.{◌≡◌};
 ghost use Rattle.bench.specs.Calls as C;
 ghost use Rattle.bench.specs.Held as H;
 
-use crate::{Bench, SoundBench};
+use crate::Bench;
+use crate::sound::SoundBench;
 use soundness::SoundTables;
 use words::{Fault, Refusal};
 
@@ -18,7 +19,7 @@ pub fn is_sound(bench: Bench) -> bool
 // Refusal 20, which comes before all others.
 #[tactic(auto, using(soundness::proofs::Soundness::sound_tables))]
 pub fn sound(bench: Bench) -> Result<SoundBench, Refusal>
-    ensures { H.held_or result ≡ C.sound_check bench }
+    ensures { H.held_or result ≡ H.sound_check bench }
 {
     if !is_sound(bench) {
         return Err(Refusal {

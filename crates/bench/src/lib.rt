@@ -10,7 +10,6 @@ ghost use Rattle.bench.specs.Calls as C;
 ghost use Rattle.bench.specs.declared.CallError.TheVariants.{Refused};
 
 use sequence::MOST_SOURCES;
-use sound::SoundBench;
 use soundness::{NOTHING, Tables};
 use table::JobWords;
 use words::{Refusal, Witness};

@@ -4,7 +4,6 @@ use accounts::sound::BenchWords;
 use bench_calls::calls;
 use bench_calls::files::{Made, RULES};
 use reference::answer::Given;
-use testing::say;
 use testing::tally::more;
 
 // Orders tried; those in which every bind was done; that end in the stored bench; and in the printed words.

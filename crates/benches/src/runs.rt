@@ -5,7 +5,6 @@ use bench_calls::calls::Told;
 use bench_calls::files::{RULES, WRONG_LT_RULE};
 use bench_calls::{calls, lines};
 use reference::answer::{Given, Subject, refused};
-use testing::say;
 use testing::tally::more;
 use testing::words::JOB;
 

@@ -11,7 +11,6 @@ mod random;
 use changes::{report_one_change, report_two_changes};
 use compare::report;
 use random::random_files;
-use testing::say;
 use testing::words::{JOB, MAPPING};
 
 // At each width one change after another.

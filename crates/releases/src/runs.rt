@@ -5,7 +5,6 @@ use accounts::sound::BenchWords;
 use bench_calls::steps::Step;
 use bench_calls::{calls, lines};
 use reference::trial::next;
-use testing::say;
 use testing::tally::more;
 use testing::words::{from_scratch, word_of};
 
