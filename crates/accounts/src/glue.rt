@@ -1,6 +1,5 @@
 // A glue count: for each code it asks the bindings whether one of them has it, and it multiplies by adding.
 use reference::recipe::fields_of;
-use std::num::wrapping_add_u64;
 use testing::tally::more;
 
 // The width and the prices of an inverter, a gate and a multiplexer.
@@ -45,117 +44,124 @@ fn has(word: u32, port: Port, code: u32) -> bool {
     }
 }
 
-// Whether a binding has a code at a port.
-fn uses(bindings: &[u32], port: Port, code: u32) -> bool {
-    bindings.iter().any(|word| has(*word, port, code))
-}
-
 // An amount so many times.
 fn times(amount: u64, count: u64) -> u64 {
-    let mut sum = 0;
+    let mut sum = 0u64;
     for _ in 0..count {
-        sum = wrapping_add_u64(sum, amount);
+        sum = sum.wrapping_add(amount);
     }
     sum
 }
 
-// An amount, where a code is in use.
-fn paid(bindings: &[u32], port: Port, code: u32, amount: u64) -> u64 {
-    if uses(bindings, port, code) {
-        amount
-    } else {
-        0
+impl Costs {
+    // The gates and the inverters of a comparison code.
+    fn of_code(self, code: u32) -> u64 {
+        let n = self.n;
+        let gates = match code {
+            3..=6 => n.saturating_sub(1),
+            9..=11 => n,
+            12 | 13 => 1,
+            14 | 15 => n.wrapping_add(1),
+            _ => 0,
+        };
+        let inverters = match code {
+            2 | 4 | 6 | 8 | 9 | 10 | 13 | 14 => 1,
+            11 | 15 => 2,
+            _ => 0,
+        };
+        times(self.gate, gates).wrapping_add(times(self.inverter, inverters))
     }
 }
 
-// How many of the codes from one on to before another are in use at a port.
-fn distinct(bindings: &[u32], port: Port, from: u32, end: u32) -> u64 {
-    (from..end)
-        .filter(|code| uses(bindings, port, *code))
-        .count() as u64
+// Bindings whose glue is counted.
+#[derive(Clone, Copy)]
+struct Glue<'a> {
+    bindings: &'a [u32],
+    costs: Costs,
 }
 
-// The gates and the inverters of a comparison code.
-fn code_cost(code: u32, costs: Costs) -> u64 {
-    let n = costs.n;
-    let gates = match code {
-        3..=6 => n.saturating_sub(1),
-        9..=11 => n,
-        12 | 13 => 1,
-        14 | 15 => wrapping_add_u64(n, 1),
-        _ => 0,
-    };
-    let inverters = match code {
-        2 | 4 | 6 | 8 | 9 | 10 | 13 | 14 => 1,
-        11 | 15 => 2,
-        _ => 0,
-    };
-    wrapping_add_u64(times(costs.gate, gates), times(costs.inverter, inverters))
-}
-
-fn codes_cost(bindings: &[u32], costs: Costs) -> u64 {
-    let mut sum = 0;
-    for code in 1..16 {
-        let cost = code_cost(code, costs);
-        sum = wrapping_add_u64(sum, paid(bindings, Port::Comparison, code, cost));
+impl Glue<'_> {
+    // Whether a binding has a code at a port.
+    fn uses(&self, port: Port, code: u32) -> bool {
+        self.bindings.iter().any(|word| has(*word, port, code))
     }
-    sum
-}
 
-// The multiplexers at one place of a word, and those of a bit: one for each code past the first of a port.
-fn multiplexers(bindings: &[u32], n: u64) -> u64 {
-    let left = distinct(bindings, Port::Left, 0, 6).saturating_sub(1);
-    let right = distinct(bindings, Port::Right, 0, 6).saturating_sub(1);
-    let scratch = paid(bindings, Port::Vector, 16, 1);
-    let main = wrapping_add_u64(distinct(bindings, Port::Main, 1, 3), scratch).saturating_sub(1);
-    let carry_in = distinct(bindings, Port::CarryIn, 0, 4).saturating_sub(1);
-    let carry_out = distinct(bindings, Port::CarryOut, 1, 3).saturating_sub(1);
-    let comparison = distinct(bindings, Port::Comparison, 1, 16).saturating_sub(1);
-    let words = wrapping_add_u64(wrapping_add_u64(left, right), main);
-    let bits = wrapping_add_u64(wrapping_add_u64(carry_in, carry_out), comparison);
-    wrapping_add_u64(times(words, n), bits)
-}
+    // An amount, where a code is in use.
+    fn paid(&self, port: Port, code: u32, amount: u64) -> u64 {
+        if self.uses(port, code) { amount } else { 0 }
+    }
 
-// The inverters, but for those of comparison codes: of an operand for both sides together, and of one for the minterms.
-fn inverters(bindings: &[u32], n: u64) -> u64 {
-    let left = more(
-        0,
-        uses(bindings, Port::Left, 3) | uses(bindings, Port::Right, 3),
-    );
-    let wired = more(
-        left,
-        uses(bindings, Port::Left, 5) | uses(bindings, Port::Right, 5),
-    );
-    let main = paid(bindings, Port::Main, 2, 1);
-    let minterms = wrapping_add_u64(
-        paid(bindings, Port::Vector, 12, 1),
-        paid(bindings, Port::Vector, 10, 1),
-    );
-    let words = wrapping_add_u64(wrapping_add_u64(wired, main), minterms);
-    let bits = wrapping_add_u64(
-        paid(bindings, Port::CarryIn, 3, 1),
-        paid(bindings, Port::CarryOut, 2, 1),
-    );
-    wrapping_add_u64(times(words, n), bits)
+    // How many of the codes from one on to before another are in use at a port.
+    fn distinct(&self, port: Port, from: u32, end: u32) -> u64 {
+        (from..end).filter(|code| self.uses(port, *code)).count() as u64
+    }
+
+    fn codes(&self) -> u64 {
+        let mut sum = 0u64;
+        for code in 1..16 {
+            let cost = self.costs.of_code(code);
+            sum = sum.wrapping_add(self.paid(Port::Comparison, code, cost));
+        }
+        sum
+    }
+
+    // The multiplexers at one place of a word, and those of a bit: one for each code past the first of a port.
+    fn multiplexers(&self) -> u64 {
+        let left = self.distinct(Port::Left, 0, 6).saturating_sub(1);
+        let right = self.distinct(Port::Right, 0, 6).saturating_sub(1);
+        let scratch = self.paid(Port::Vector, 16, 1);
+        let main = self
+            .distinct(Port::Main, 1, 3)
+            .wrapping_add(scratch)
+            .saturating_sub(1);
+        let carry_in = self.distinct(Port::CarryIn, 0, 4).saturating_sub(1);
+        let carry_out = self.distinct(Port::CarryOut, 1, 3).saturating_sub(1);
+        let comparison = self.distinct(Port::Comparison, 1, 16).saturating_sub(1);
+        let words = left.wrapping_add(right).wrapping_add(main);
+        let bits = carry_in.wrapping_add(carry_out).wrapping_add(comparison);
+        times(words, self.costs.n).wrapping_add(bits)
+    }
+
+    // The inverters, but for those of comparison codes: of an operand for both sides together, and of one for the minterms.
+    fn inverters(&self) -> u64 {
+        let left = more(0, self.uses(Port::Left, 3) | self.uses(Port::Right, 3));
+        let wired = more(left, self.uses(Port::Left, 5) | self.uses(Port::Right, 5));
+        let main = self.paid(Port::Main, 2, 1);
+        let minterms = self
+            .paid(Port::Vector, 12, 1)
+            .wrapping_add(self.paid(Port::Vector, 10, 1));
+        let words = wired.wrapping_add(main).wrapping_add(minterms);
+        let bits = self
+            .paid(Port::CarryIn, 3, 1)
+            .wrapping_add(self.paid(Port::CarryOut, 2, 1));
+        times(words, self.costs.n).wrapping_add(bits)
+    }
+
+    // The gates of the minterms.
+    fn gates(&self) -> u64 {
+        let high = self
+            .paid(Port::Vector, 8, 1)
+            .wrapping_add(self.paid(Port::Vector, 4, 1));
+        let low = self
+            .paid(Port::Vector, 2, 1)
+            .wrapping_add(self.paid(Port::Vector, 1, 1));
+        times(
+            times(3, high.wrapping_add(low)).saturating_sub(1),
+            self.costs.n,
+        )
+    }
+
+    fn count(&self) -> u64 {
+        let muxes = times(self.costs.multiplexer, self.multiplexers());
+        let nots = times(self.costs.inverter, self.inverters());
+        let made = times(self.costs.gate, self.gates());
+        muxes
+            .wrapping_add(nots)
+            .wrapping_add(made.wrapping_add(self.codes()))
+    }
 }
 
 // The glue count of bindings at a width and prices.
 pub fn glue_count(bindings: &[u32], costs: Costs) -> u64 {
-    let n = costs.n;
-    let high = wrapping_add_u64(
-        paid(bindings, Port::Vector, 8, 1),
-        paid(bindings, Port::Vector, 4, 1),
-    );
-    let low = wrapping_add_u64(
-        paid(bindings, Port::Vector, 2, 1),
-        paid(bindings, Port::Vector, 1, 1),
-    );
-    let gates = times(times(3, wrapping_add_u64(high, low)).saturating_sub(1), n);
-    let muxes = times(costs.multiplexer, multiplexers(bindings, n));
-    let nots = times(costs.inverter, inverters(bindings, n));
-    let made = times(costs.gate, gates);
-    wrapping_add_u64(
-        wrapping_add_u64(muxes, nots),
-        wrapping_add_u64(made, codes_cost(bindings, costs)),
-    )
+    Glue { bindings, costs }.count()
 }

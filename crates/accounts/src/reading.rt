@@ -3,7 +3,8 @@
 use reference::answer::{Refusal, Subject, refused};
 use reference::recipe::fields_of;
 use reference::refusal::recipe_fits;
-use testing::words::{at, content, kind};
+use testing::kinds::{Kind, kind_of};
+use testing::words::{at, content};
 
 // What the words of a job hold: the width, the prices of an inverter, a gate and a multiplexer, the numbers of sources, targets and rules,
 // and whether the book is asked for.
@@ -37,10 +38,10 @@ pub enum File {
 
 // The function of a source or target word, or of a recipe's source.
 pub fn function(word: u32) -> u32 {
-    if kind(word) < 5 {
-        return content(word);
+    match kind_of(word) {
+        Some(Kind::Rule | Kind::Binding) => fields_of(word).source,
+        _ => content(word),
     }
-    fields_of(word).source
 }
 
 // The width in the header of a file, without the bit above it that asks for the book.
@@ -48,76 +49,90 @@ pub fn width_of(words: &[u32]) -> u32 {
     at(words, 0) % 128
 }
 
-// Kinds 2 to 5 stand in jobs only, 6 and 7 in mappings only.
-fn follows(file: File, before: u32, kind: u32) -> bool {
+// Whether a kind may stand behind that of the word before, or first. Prices, sources, targets and rules stand in jobs only, bindings and a glue
+// count in mappings only.
+fn follows(file: File, before: Option<Kind>, kind: Kind) -> bool {
+    use Kind::{Binding, Glue, Header, Prices, Rule, Source, Target};
     match before {
-        0 => kind == 1,
-        1 => match file {
-            File::Job => kind == 2,
-            File::Mapping => (kind == 6) | (kind == 7),
+        None => kind == Header,
+        Some(Header) => match file {
+            File::Job => kind == Prices,
+            File::Mapping => (kind == Binding) | (kind == Glue),
         },
-        2 => kind == 3,
-        3 => (kind == 3) | (kind == 4) | (kind == 5),
-        4 => (kind == 4) | (kind == 5),
-        5 => kind == 5,
-        6 => (kind == 6) | (kind == 7),
-        _ => false,
+        Some(Prices) => kind == Source,
+        Some(Source) => (kind == Source) | (kind == Target) | (kind == Rule),
+        Some(Target) => (kind == Target) | (kind == Rule),
+        Some(Rule) => kind == Rule,
+        Some(Binding) => (kind == Binding) | (kind == Glue),
+        Some(Glue) => false,
     }
 }
 
 // How many words are of a kind.
-fn count_of(words: &[u32], of: u32) -> u32 {
-    let count = words.iter().filter(|word| kind(**word) == of).count();
+fn count_of(words: &[u32], of: Kind) -> u32 {
+    let count = words
+        .iter()
+        .filter(|word| kind_of(**word) == Some(of))
+        .count();
     (count % 0x1_0000_0000) as u32
 }
 
-// 3 of any word, and 5 and 6 of a recipe. The header of a job has room for one bit above the width, that of a mapping has not.
-fn content_fits(file: File, word: u32) -> Result<(), u32> {
-    let of = kind(word);
+// 3 of a word of a kind, and 5 and 6 of a recipe. The header of a job has room for one bit above the width, that of a mapping has not.
+fn content_fits(file: File, of: Kind, word: u32) -> Result<(), u32> {
     let rest = content(word);
     let room = match file {
         File::Job => 256,
         File::Mapping => 128,
     };
-    if (of == 5) | (of == 6) {
-        return recipe_fits(word);
-    }
     let bad = match of {
-        1 => (rest >= room) | (rest % 128 == 0) | (rest % 128 > 64),
-        2 => rest > 0xff_ffff,
-        3 | 4 => (rest == 0) | (rest > 27),
-        _ => false,
+        Kind::Header => (rest >= room) | (rest % 128 == 0) | (rest % 128 > 64),
+        Kind::Prices => rest > 0xff_ffff,
+        Kind::Source | Kind::Target => (rest == 0) | (rest > 27),
+        Kind::Rule | Kind::Binding => return recipe_fits(word),
+        Kind::Glue => false,
     };
     if bad { Err(3) } else { Ok(()) }
 }
 
-// 2 to 6 of a word, by the words before it. Rules need not rise.
+// 2 to 6 of a word, by the words before it, which fit. Rules need not rise. A word of no kind may stand nowhere.
 fn word_fits(file: File, before: &[u32], word: u32) -> Result<(), u32> {
     let last = before.last().copied().unwrap_or(0);
-    let of = kind(word);
-    if !follows(file, kind(last), of) {
+    let Some(of) = kind_of(word) else {
+        return Err(2);
+    };
+    if !follows(file, kind_of(last), of) {
         return Err(2);
     }
-    let most = if of == 5 { 512 } else { 27 };
+    let most = if of == Kind::Rule { 512 } else { 27 };
     if count_of(before, of) >= most {
         return Err(2);
     }
-    let fits = content_fits(file, word);
+    let fits = content_fits(file, of, word);
     if fits == Err(3) {
         return fits;
     }
-    if (of == kind(last)) & (of != 5) & (function(word) <= function(last)) {
+    let again = kind_of(last) == Some(of);
+    if again & (of != Kind::Rule) & (function(word) <= function(last)) {
         return Err(4);
     }
     fits
 }
 
-// The first refusal of a file's words, 1 to 6, and its place. A job ends after a source at the earliest, a mapping with its glue count.
+// Whether a file may end with a word of a kind: a job after a source at the earliest, a mapping with its glue count.
+fn may_end(file: File, kind: Option<Kind>) -> bool {
+    match (file, kind) {
+        (File::Job, Some(Kind::Source | Kind::Target | Kind::Rule)) => true,
+        (File::Mapping, Some(Kind::Glue)) => true,
+        _ => false,
+    }
+}
+
+// The first refusal of a file's words, 1 to 6, and its place.
 fn is_well_formed(file: File, words: &[u32]) -> Result<(), (u32, usize)> {
     let size = words.len();
-    let (most, least_end) = match file {
-        File::Job => (568, 3),
-        File::Mapping => (29, 7),
+    let most = match file {
+        File::Job => 568,
+        File::Mapping => 29,
     };
     if (size == 0) | (size > most) {
         return Err((1, 0));
@@ -125,7 +140,7 @@ fn is_well_formed(file: File, words: &[u32]) -> Result<(), (u32, usize)> {
     for (i, word) in words.iter().enumerate() {
         word_fits(file, &words[..i], *word).map_err(|number| (number, i))?;
     }
-    if kind(words[size - 1]) < least_end {
+    if !may_end(file, kind_of(words[size - 1])) {
         return Err((2, size));
     }
     Ok(())
@@ -143,9 +158,9 @@ pub fn read_job(words: &[u32]) -> Result<JobFacts, Refusal> {
         inverter: prices / 0x1_0000 % 256,
         gate: prices / 256 % 256,
         multiplexer: prices % 256,
-        sources: count_of(words, 3),
-        targets: count_of(words, 4),
-        rules: count_of(words, 5),
+        sources: count_of(words, Kind::Source),
+        targets: count_of(words, Kind::Target),
+        rules: count_of(words, Kind::Rule),
         book: at(words, 0) / 128 % 2 == 1,
     })
 }
@@ -158,7 +173,7 @@ pub fn read_mapping(words: &[u32]) -> Result<MappingFacts, Refusal> {
     ))?;
     Ok(MappingFacts {
         width: width_of(words),
-        bindings: count_of(words, 6),
+        bindings: count_of(words, Kind::Binding),
         glue: content(words.last().copied().unwrap_or(0)),
     })
 }

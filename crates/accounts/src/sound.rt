@@ -4,7 +4,8 @@ use crate::glue::{Costs, glue_count};
 use reference::recipe::fields_of;
 use reference::refusal::refusal_of;
 use reference::trial::is_right;
-use testing::words::{at, content, kind, put};
+use testing::kinds::{Kind, kind_of};
+use testing::words::{at, content, put};
 
 // Of an inverter, a gate and a multiplexer.
 // Kept: a type like that of `words`, since the second account stands on no crate that it is compared with.
@@ -38,15 +39,12 @@ pub struct BenchWords {
 impl Table {
     // 27 words at most.
     pub fn of(words: &[u32]) -> Table {
-        let mut table = [0u32; 27];
-        let mut count = 0;
-        for (entry, word) in table.iter_mut().zip(words) {
-            *entry = *word;
-            count = std::num::wrapping_add_u32(count, 1);
-        }
+        let count = words.len().min(27);
+        let mut table = [0; 27];
+        table[..count].copy_from_slice(&words[..count]);
         Table {
             words: table,
-            count,
+            count: count as u32,
         }
     }
 
@@ -56,12 +54,12 @@ impl Table {
     }
 
     // So many words of a kind that rise, and zeros after them.
-    fn fits(&self, of: u32) -> bool {
-        let mut last = of << 28;
+    fn fits(&self, of: Kind) -> bool {
+        let mut last = of.word(0);
         for (i, word) in self.words.iter().enumerate() {
             let word = *word;
             if i < self.count as usize {
-                if (kind(word) != of) | (content(word) > 27) | (word <= last) {
+                if (kind_of(word) != Some(of)) | (content(word) > 27) | (word <= last) {
                     return false;
                 }
                 last = word;
@@ -92,7 +90,10 @@ impl BenchWords {
     // With a rule bound, if its source is one of the bench's.
     pub fn with_rule(self, rule: u32) -> BenchWords {
         let mut bench = self;
-        if let Some(entry) = self.sources.entry_of(0x3000_0000 | fields_of(rule).source) {
+        if let Some(entry) = self
+            .sources
+            .entry_of(Kind::Source.word(fields_of(rule).source))
+        {
             put(&mut bench.bound, entry, rule);
         }
         bench
@@ -122,14 +123,14 @@ impl BenchWords {
     // A right rule of the source in an entry, from scratch or from a target of the table.
     fn may_bind(&self, word: u32, entry: usize) -> bool {
         let fields = fields_of(word);
-        if (fields.kind != 5) | refusal_of(word, self.width).is_some() {
+        if (kind_of(word) != Some(Kind::Rule)) | refusal_of(word, self.width).is_some() {
             return false;
         }
-        let source = 0x3000_0000 | fields.source;
+        let source = Kind::Source.word(fields.source);
         if (entry >= self.sources.count as usize) | (source != at(&self.sources.words, entry)) {
             return false;
         }
-        let target = 0x4000_0000 | fields.target;
+        let target = Kind::Target.word(fields.target);
         if (fields.target != 0) & self.targets.entry_of(target).is_none() {
             return false;
         }
@@ -147,7 +148,7 @@ impl BenchWords {
         {
             return false;
         }
-        if !self.sources.fits(3) | !self.targets.fits(4) {
+        if !self.sources.fits(Kind::Source) | !self.targets.fits(Kind::Target) {
             return false;
         }
         for (entry, word) in self.bound.iter().enumerate() {

@@ -1,11 +1,11 @@
 -- O0 is a word of the width, whatever the function; and what a width's test says.
-use mathlib.Core.Path.{◌≡◌, sym, ◌∙◌}
-use Prim.Native.Nat.{ℕ, ◌^◌, ◌<◌}
+use mathlib.Core.Path.{◌≡◌, refl, sym, ◌∙◌}
+use Prim.Native.Nat.{ℕ, ◌^◌, ◌<◌, ◌≤◌}
 use native.Mathlib.Nat.{mod-lt}
 use mathlib.Core.Bool.{Bool, true, false, not, false≢true}
 use lib.Dec.{ltb}
 use lib.Pow.{pow_pos}
-use borrow.Author.Tests.{leb-true, ltb-false, not-false}
+use borrow.Author.Tests.{le-ltb, le-leb, leb-true, ltb-false, not-false}
 use Rattle.words.proofs.Choices.{either}
 use Rattle.bits.specs.Bits.{bit}
 use Rattle.alu.specs.Function.{ports}
@@ -28,6 +28,11 @@ unfolding is_width
 width_of n =
     either (λ b. b ≡ true → Width n) (ltb n 1) (λ _ e. absurd (false≢true e))
     (λ h e. record { least = ltb-false n 1 h; most = leb-true n 64 e })
+
+-- and the other way
+pub is_width_lem : (n : ℕ) → 1 ≤ n → n ≤ 64 → is_width n ≡ true
+unfolding is_width
+is_width_lem n g h = rw (le-ltb n 1 g, le-leb n 64 h) refl
 
 pub has_width : (n : ℕ) (q : Bool) → q ≡ is_width n → not q ≡ false → Width n
 has_width n q e h = width_of n (sym e ∙ not-false q h)

@@ -18,7 +18,7 @@ pub const FUNCTIONS: u32 = 27;
 pub const WIDEST: u32 = 64;
 
 // Some of the four ports.
-#[derive(Clone, Copy)]
+#[derive(Clone, Copy, PartialEq, Eq)]
 pub struct PortSet {
     pub o0: bool,
     pub ocout: bool,
@@ -58,6 +58,8 @@ pub fn is_width(n: u32) -> bool
 }
 
 // The kind of a function, by its number. LIMPL and RIMPL are those of Table 2.
+// Kept: a function is its number wherever words and the C interface hold one, and this table is where it is read. An enum of 27 would be
+// made from the number and turned back at each word.
 pub fn function_of(number: u32) -> Kind
     ensures { result ≡ F.function_of number }
 {

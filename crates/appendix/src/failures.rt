@@ -1,5 +1,5 @@
 // Records that do not show what their source function shows, each at the least left, right and carry where it does not.
-use crate::judged::{Judged, judge};
+use crate::judged::is_answer;
 use crate::shown::{Narrow, by_library, by_reference};
 use reference::evaluator::Operands;
 use reference::recipe::{Port, first_difference};
@@ -38,7 +38,7 @@ fn show_failure(
     tally: &mut Tally,
     record: Record,
     width: Narrow,
-    expected: Judged,
+    expected: Option<u32>,
 ) {
     let (name, word) = record;
     let n = width.n;
@@ -52,7 +52,7 @@ fn show_failure(
     };
     let told = by_library(word, width, at);
     let second = by_reference(word, n, at);
-    let answer = judge(word, n);
+    let answer = told::judged(word, n);
     let _ = print!(rt;
         " left {} right {} carry {} port ",
         at.left, at.right, at.carry
@@ -61,13 +61,14 @@ fn show_failure(
     let _ = print!(rt; "{port}: source shows {source}, recipe shows {recipe}");
     let (source, recipe) = second.at_port(port);
     let _ = print!(rt; "; by the reference {source}, {recipe}");
-    let _ = println!(rt; "; judge: refusal {}", answer.number().unwrap_or(0));
-    tally.count((told == second) & (answer == expected));
+    let number = answer.err().map_or(0, |refusal| refusal.number);
+    let _ = println!(rt; "; judge: refusal {number}");
+    tally.count((told == second) & is_answer(answer, expected));
 }
 
 // Each record at width 1, which is the least, and at width 8.
-pub fn report_failures(rt: &HostRuntime, name: &[u8], records: &[Record], expected: Judged) {
-    let mut tally = Tally::none();
+pub fn report_failures(rt: &HostRuntime, name: &[u8], records: &[Record], expected: Option<u32>) {
+    let mut tally = Tally::default();
     for record in records {
         show_failure(rt, &mut tally, *record, Narrow { n: 1 }, expected);
         show_failure(rt, &mut tally, *record, Narrow { n: 8 }, expected);

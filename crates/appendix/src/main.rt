@@ -8,7 +8,7 @@ mod shown;
 mod tried;
 
 use failures::{Record, report_failures};
-use judged::{Judged, report_judged};
+use judged::report_judged;
 use tried::report_tried;
 
 // The records that a recipe holds and that are wrong, and their words, as docs/BOOK.md reads the report.
@@ -55,22 +55,12 @@ const WRONG: [Record; 36] = [
 const REFUSED: [Record; 2] = [("II", 0x5211_0100), ("DD", 0x5295_0100)];
 
 fn main(rt: HostRuntime) {
-    report_failures(&rt, b"wrong records", &WRONG, Judged::Wrong);
-    report_failures(&rt, b"refused records", &REFUSED, Judged::Refused(6));
+    report_failures(&rt, b"wrong records", &WRONG, Some(10));
+    report_failures(&rt, b"refused records", &REFUSED, Some(6));
     let wrong = WRONG.map(|(_, word)| word);
-    report_judged(&rt, b"wrong records judged wrong", &wrong, Judged::Wrong);
+    report_judged(&rt, b"wrong records judged wrong", &wrong, Some(10));
     let refused = REFUSED.map(|(_, word)| word);
-    report_judged(
-        &rt,
-        b"refused records refused with 6",
-        &refused,
-        Judged::Refused(6),
-    );
-    report_judged(
-        &rt,
-        b"rules of the book judged right",
-        &book::BOOK,
-        Judged::Right,
-    );
+    report_judged(&rt, b"refused records refused with 6", &refused, Some(6));
+    report_judged(&rt, b"rules of the book judged right", &book::BOOK, None);
     report_tried(&rt);
 }

@@ -1,7 +1,7 @@
 // What a recipe and its source function show at operands: by the library, and by the reference.
 ghost use Rattle.std.specs.Prelude.{◌≤◌};
 
-use bits::{Ports, Width};
+use bits::Width;
 use reference::evaluator::{Operands, Shown, evaluate};
 use reference::recipe::{Port, fields_of, recipe_shows};
 
@@ -32,15 +32,6 @@ pub fn by_reference(word: u32, n: u32, at: Operands) -> Both {
     }
 }
 
-fn of_ports(ports: Ports) -> Shown {
-    Shown {
-        o0: ports.o0,
-        ocout: ports.ocout,
-        ovf: ports.ovf,
-        o1: ports.o1,
-    }
-}
-
 // As the judge has them shown; zeros where an operand is out of range.
 pub fn by_library(word: u32, narrow: Narrow, at: Operands) -> Both {
     let width = Width { n: narrow.n };
@@ -58,8 +49,8 @@ pub fn by_library(word: u32, narrow: Narrow, at: Operands) -> Both {
     };
     let carry = at.carry == 1;
     Both {
-        source: of_ports(binding::side_shows(source, operands, carry)),
-        recipe: of_ports(binding::shows(recipe, operands, carry)),
+        source: told::shown_of(binding::side_shows(source, operands, carry)),
+        recipe: told::shown_of(binding::shows(recipe, operands, carry)),
     }
 }
 

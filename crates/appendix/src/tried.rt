@@ -36,7 +36,7 @@ fn try_rule(tally: &mut Tally, word: u32, n: u32) {
 
 // All rules at a width.
 fn report_width(rt: &HostRuntime, words: &[u32], n: u32) {
-    let mut tally = Tally::none();
+    let mut tally = Tally::default();
     for word in words {
         try_rule(&mut tally, *word, n);
     }

@@ -1,5 +1,5 @@
 -- What the programs' arguments mean.
-use Rattle.std.specs.Prelude.{ℕ, Option, None, Some, ◌+◌, ◌-◌, ◌*◌, Bool, ◌&&◌, List, [], ◌∷◌, leb, if◌then◌else◌}
+use Rattle.std.specs.Prelude.{ℕ, Option, None, Some, ◌+◌, ◌-◌, ◌*◌, ◌≤◌, Bool, true, false, ⊤, ◌&&◌, List, [], ◌∷◌, leb, if◌then◌else◌}
 use Rattle.std.specs.Option.{option_and_then}
 use Rattle.std.specs.Str.{bytes_eq}
 use Rattle.alu.specs.Range.{is_width}
@@ -9,6 +9,17 @@ use Rattle.arguments.specs.declared.Widths.TheVariants.{At, All}
 
 abbrev pub is_help : List ℕ → Bool
 is_help argument = bytes_eq argument (bytes "--help")
+
+-- a program was called with a number of arguments that it takes, its own name among them; the number is the system's choice
+pub record TakenBy (fewest most : ℕ) : Type 0 where
+  pub count : ℕ
+  pub enough : fewest ≤ count
+  pub few : count ≤ most
+
+-- a program that may run was; of one that may not nothing follows, since help may have been asked for
+abbrev pub MayRun : ℕ → ℕ → Bool → Type 0
+MayRun fewest most true = TakenBy fewest most
+MayRun fewest most false = ⊤
 
 -- the value of a decimal digit
 unfoldable pub decimal_digit : ℕ → Option ℕ

@@ -1,9 +1,10 @@
 // What the programs' arguments mean.
 #![tactic(auto)]
 
-ghost use Rattle.std.specs.Prelude.{◌≡◌, ◌≤◌, length};
+ghost use Rattle.std.specs.Prelude.{◌≡◌, ◌≤◌, length, take};
 ghost use Rattle.arguments.specs.Arguments as W;
 
+use console::Failed;
 use std::env::FillError;
 use std::rt::Env;
 
@@ -11,11 +12,36 @@ use std::rt::Env;
 pub const MOST_BYTES: usize = 4096;
 
 // Puts an argument at the start of a buffer and answers its length, or 0 if there is no such argument or it is longer.
-// Kept: a lent buffer, since no heap is a rule of the project.
+// Kept: a lent buffer, since no heap is a rule of the project; and the 0, since an empty name opens no file either, and is said by the system.
 pub fn put_argument(rt: &HostRuntime, index: usize, out: &mut [u8]) -> usize
     ensures { result ≤ length out.new }
 {
     rt.arg(index, out).unwrap_or(0)
+}
+
+// An argument of a program; an empty one where there is none, or a longer one, and no file has that name.
+// Kept: bytes with their count, since no heap is a rule of the project.
+#[derive(Drop)]
+pub struct Argument {
+    bytes: [u8; MOST_BYTES],
+    length: usize,
+    ghost held: { length ≤ 4096 },
+}
+
+impl Argument {
+    // The argument of an index.
+    pub fn at(rt: &HostRuntime, index: usize) -> Argument {
+        let mut bytes = [0u8; MOST_BYTES];
+        let length = put_argument(rt, index, &mut bytes);
+        Argument { bytes, length }
+    }
+
+    // Its bytes.
+    pub fn as_bytes(&self) -> &[u8]
+        ensures { result.now ≡ take self.now.length self.now.bytes }
+    {
+        &self.bytes[..self.length]
+    }
 }
 
 // Whether a program was called with an argument of this index.
@@ -55,18 +81,23 @@ fn asks_help(rt: &HostRuntime) -> bool {
     if count(rt) < 2 {
         return false;
     }
-    let mut argument = [0u8; MOST_BYTES];
-    let length = put_argument(rt, 1, &mut argument);
-    is_help(&argument[..length])
+    let argument = Argument::at(rt, 1);
+    is_help(argument.as_bytes())
+}
+
+// Prints how a program is called, and the rest of the help.
+fn print_help(rt: &HostRuntime, usage: &[u8], help: &[u8]) -> Result<(), Failed> {
+    console::print(rt, usage)?;
+    console::print(rt, help)
 }
 
 // Whether a program is to run, by how many arguments it was called with, its own name among them. If not, it is said how it is called: on
 // standard output with the rest of the help that was asked for, or on standard error.
-pub fn may_run(rt: &HostRuntime, fewest: usize, most: usize, usage: &[u8], help: &[u8]) -> bool {
+pub fn may_run(rt: &HostRuntime, fewest: usize, most: usize, usage: &[u8], help: &[u8]) -> bool
+    ensures { W.MayRun fewest most result }
+{
     if asks_help(rt) {
-        if console::print(rt, usage) {
-            console::print(rt, help);
-        }
+        let _ = print_help(rt, usage, help);
         return false;
     }
     let count = count(rt);
@@ -82,10 +113,7 @@ pub fn may_run(rt: &HostRuntime, fewest: usize, most: usize, usage: &[u8], help:
 fn decimal_digit(byte: u8) -> Option<u32>
     ensures { result ≡ W.decimal_digit byte }
 {
-    match byte {
-        b'0'..=b'9' => Some((byte - b'0') as u32),
-        _ => None,
-    }
+    char::from(byte).to_digit(10)
 }
 
 fn width_at(n: u32) -> Option<Widths>

@@ -38,6 +38,16 @@ pub struct Cell {
     pub order: bool,
 }
 
+// What both sides do at one place, and whether any or all bits of the target's O0 below it are 1. It is lent to its methods: by value they
+// made a verdict take 10% longer at width 64.
+#[derive(Clone, Copy)]
+pub struct Both {
+    pub source: Cell,
+    pub target: Cell,
+    pub any: bool,
+    pub all: bool,
+}
+
 // Before the lowest place.
 pub fn first(s: Side, t: Recipe, carry: bool) -> State
     ensures { result ≡ M.first s t carry }
@@ -51,41 +61,43 @@ pub fn first(s: Side, t: Recipe, carry: bool) -> State
     }
 }
 
-// After a place, from what the source (p) and the target (q) do there.
-pub fn next(p: Cell, q: Cell, any: bool, all: bool) -> State
-    ensures { result ≡ M.next_by p q any all }
-{
-    let source = p.ripple;
-    let target = q.ripple;
-    State {
-        source,
-        target,
-        any: any | q.bit,
-        all: all & q.bit,
+impl Both {
+    // After the place.
+    pub fn next(&self) -> State
+        ensures { result ≡ M.next_by self.now.source self.now.target self.now.any self.now.all }
+    {
+        State {
+            source: self.source.ripple,
+            target: self.target.ripple,
+            any: self.any | self.target.bit,
+            all: self.all & self.target.bit,
+        }
     }
-}
 
-// Whether O0 agrees at a place.
-pub fn alike(outputs: Outputs, p: Cell, q: Cell) -> bool
-    ensures { result ≡ M.alike_by outputs p q }
-{
-    output::shown_bit(outputs.main, q.bit) == p.bit
-}
+    // Whether O0 agrees there.
+    pub fn alike(&self, outputs: Outputs) -> bool
+        ensures { result ≡ M.alike_by outputs self.now.source self.now.target }
+    {
+        output::shown_bit(outputs.main, self.target.bit) == self.source.bit
+    }
 
-// Whether all ports agree at the top place.
-pub fn last(outputs: Outputs, p: Cell, q: Cell, any: bool, all: bool) -> bool
-    ensures { result ≡ M.last_by outputs p q any all }
-{
-    let main = alike(outputs, p, q);
-    let cout = output::shown_bit(outputs.cout, q.carry) == p.carry;
-    let ovf = output::shown_bit(outputs.ovf, q.overflow) == p.overflow;
-    let code = output::shown_comparison(
-        outputs.code,
-        q.order,
-        any | q.bit,
-        all & q.bit,
-        q.bit,
-        q.overflow,
-    );
-    main & (cout & (ovf & (code == p.order)))
+    // Whether all ports agree if it is the top place.
+    pub fn last(&self, outputs: Outputs) -> bool
+        ensures { result ≡ M.last_by outputs self.now.source self.now.target self.now.any self.now.all }
+    {
+        let p = self.source;
+        let q = self.target;
+        let main = self.alike(outputs);
+        let cout = output::shown_bit(outputs.cout, q.carry) == p.carry;
+        let ovf = output::shown_bit(outputs.ovf, q.overflow) == p.overflow;
+        let code = output::shown_comparison(
+            outputs.code,
+            q.order,
+            self.any | q.bit,
+            self.all & q.bit,
+            q.bit,
+            q.overflow,
+        );
+        main & (cout & (ovf & (code == p.order)))
+    }
 }

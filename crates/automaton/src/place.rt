@@ -7,6 +7,7 @@ use crate::{Cell, Ripple};
 use alu::Kind;
 
 // A wiring code on one bit of each operand. The rest of the code chooses the bit, its low bit complements it.
+// Kept: this and `bits::carried` are an index and a complement each. One function over an array of either size would be no shorter.
 pub fn wire(code: u32, x: bool, y: bool) -> bool
     ensures { result ≡ P.wire code x y }
 {

@@ -55,7 +55,7 @@ module _ (b : Bench) (h : Shaped b) (s : sound_bench b ≡ true) where
   module _ (u : unbound_on b ≡ None) where
     pub all_bound : take b.tables.nsources b.bound ≡ bindings_on b
     all_bound =
-        ap (λ (x : ℕ). take x b.bound) (sources_taken b h (sound_sources b.tables b.bound b.glue s))
+        ap (λ (x : ℕ). take x b.bound) (sources_taken b h s)
         ∙ all_filled b.tables.width (sources_on b.tables) (targets_on b.tables) (sources_on b.tables) b.bound (sound_holds b.tables b.bound b.glue s).entries u
 
   pub bound_fit : b.tables.nsources ≤ length b.bound
@@ -77,22 +77,22 @@ module _ (b : Bench) (h : Shaped b) (s : sound_bench b ≡ true) where
 -- ---- the writing
 
 module _ (s : SoundBench) (h : Shaped (bench_held s)) where
-  pub entries_fit : s.tables.tables.nsources ≤ length s.bound
+  pub entries_fit : s.held.tables.tables.nsources ≤ length s.held.bound
   entries_fit = bound_fit (bench_held s) h s.sound
 
-  pub entries_taken : s.tables.tables.nsources ≡ length (take s.tables.tables.nsources s.bound)
+  pub entries_taken : s.held.tables.tables.nsources ≡ length (take s.held.tables.tables.nsources s.held.bound)
   entries_taken = bound_taken (bench_held s) h s.sound
 
-  pub held_width : s.tables.tables.width ≤ 64
-  held_width = (sound_width s.tables.tables s.bound s.glue s.sound).most
+  pub held_width : s.held.tables.tables.width ≤ 64
+  held_width = (sound_width s.held.tables.tables s.held.bound s.glue s.sound).most
 
   pub held_count : s.glue < 2 ^ 28
   held_count = stored_fits (bench_held s) h s.sound
 
-  pub held_few : length (take s.tables.tables.nsources s.bound) ≤ most_sources
-  held_few = omega (arith, entries_taken, sound_sources s.tables.tables s.bound s.glue s.sound)
+  pub held_few : length (take s.held.tables.tables.nsources s.held.bound) ≤ most_sources
+  held_few = omega (arith, entries_taken, sound_sources s.held.tables.tables s.held.bound s.glue s.sound)
 
   pub mapping_laid : unbound_on (bench_held s) ≡ None → (lent m : List ℕ)
-      → m ≡ lent_after (mapping_words s.tables.tables.width (take s.tables.tables.nsources s.bound) s.glue) lent
+      → m ≡ lent_after (mapping_words s.held.tables.tables.width (take s.held.tables.tables.nsources s.held.bound) s.glue) lent
       → m ≡ lent_after (mapping_on (bench_held s)) lent
-  mapping_laid u lent m e = e ∙ (λ i. lent_after (mapping_words s.tables.tables.width (all_bound (bench_held s) h s.sound u i) s.glue) lent)
+  mapping_laid u lent m e = e ∙ (λ i. lent_after (mapping_words s.held.tables.tables.width (all_bound (bench_held s) h s.sound u i) s.glue) lent)

@@ -14,7 +14,7 @@ sound_check b = if not (sound_bench b) then Err (refusal NotSound 0) else Ok b
 
 -- the bench that is held as a sound one
 abbrev pub bench_held : SoundBench → Bench
-bench_held s = bench_with s.tables.tables s.bound s.glue
+bench_held s = bench_with s.held.tables.tables s.held.bound s.glue
 
 -- that bench, or why there is none
 abbrev pub held_or : Result SoundBench Refusal → Result Bench Refusal

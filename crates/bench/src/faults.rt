@@ -5,7 +5,7 @@ ghost use Rattle.bench.specs.Held as H;
 
 use crate::Bench;
 use crate::sound::SoundBench;
-use soundness::SoundTables;
+use soundness::{BoundTables, SoundTables};
 use words::{Fault, Refusal};
 
 pub fn is_sound(bench: Bench) -> bool
@@ -31,9 +31,9 @@ pub fn sound(bench: Bench) -> Result<SoundBench, Refusal>
         tables: bench.tables,
     };
     let bound = bench.bound;
+    let held = BoundTables { tables, bound };
     Ok(SoundBench {
-        tables,
-        bound,
+        held,
         glue: bench.glue,
     })
 }
@@ -46,16 +46,15 @@ pub fn bind_check(bench: SoundBench, word: u32) -> Result<(), Refusal>
     if let Some(fault) = soundness::rule_fault(word) {
         return Err(Refusal { fault, place: 0 });
     }
-    let tables = bench.tables;
-    if !entries::in_tables(tables, word) {
+    let held = bench.held;
+    if !entries::in_tables(held.tables, word) {
         return Err(Refusal {
             fault: Fault::NotInJob,
             place: 0,
         });
     }
-    let bound = bench.bound;
     let function = recipe::source_of(word);
-    if entries::is_bound(tables, bound, function) {
+    if entries::is_bound(held, function) {
         return Err(Refusal {
             fault: Fault::AlreadyBound,
             place: function as usize,

@@ -5,18 +5,28 @@ ghost use Rattle.soundness.specs.Sound as S;
 ghost use Rattle.bench.specs.Calls as C;
 
 use crate::{Bench, CallError, faults};
-use sequence::MOST_SOURCES;
-use soundness::{NOTHING, SoundTables};
+use soundness::{BoundTables, NOTHING};
 use verdict::Verdict;
 use words::{Fault, Refusal};
 
 // A bench that is sound.
 #[derive(Clone, Copy)]
 pub struct SoundBench {
-    pub tables: SoundTables,
-    pub bound: [u32; MOST_SOURCES],
+    pub held: BoundTables,
     pub glue: u32,
-    pub ghost sound: { S.is_sound tables.tables bound glue ≡ true },
+    pub ghost sound: { S.is_sound held.tables.tables held.bound glue ≡ true },
+}
+
+// The bench of what is held, with a count.
+fn bench_of(held: BoundTables, glue: u32) -> Bench
+    ensures { result ≡ C.bench_with held.tables.tables held.bound glue }
+{
+    let bound = held.bound;
+    Bench {
+        tables: held.tables.tables,
+        bound,
+        glue,
+    }
 }
 
 impl SoundBench {
@@ -26,21 +36,12 @@ impl SoundBench {
     fn put(self, function: u32, word: u32) -> Bench
         ensures { result ≡ C.bound_at (bench_held self) (C.entry_for (bench_held self) function) word }
     {
-        let tables = self.tables;
-        let mut bound = self.bound;
-        let Some(entry) = entries::entry_for(tables, function) else {
-            return Bench {
-                tables: tables.tables,
-                bound,
-                glue: self.glue,
-            };
+        let mut held = self.held;
+        let Some(entry) = entries::entry_for(held.tables, function) else {
+            return bench_of(held, self.glue);
         };
-        bound[entry] = word;
-        Bench {
-            tables: tables.tables,
-            bound,
-            glue: soundness::glue_on(tables, bound),
-        }
+        held.bound[entry] = word;
+        bench_of(held, held.glue())
     }
 
     // The bench with a rule bound: refusals 2, 3, 5, 6, 8, 21, 10.
@@ -49,7 +50,7 @@ impl SoundBench {
         ensures { C.Binds (bench_held self) word (C.next_of (bench_held self) result) }
     {
         faults::bind_check(self, word)?;
-        let verdict = entries::verdict_on(self.tables, word);
+        let verdict = entries::verdict_on(self.held.tables, word);
         match verdict {
             Verdict::Wrong(witness) => Err(CallError::Wrong(witness)),
             Verdict::Right => Ok(self.put(recipe::source_of(word), word)),
@@ -61,8 +62,7 @@ impl SoundBench {
     pub fn released(self, function: u32) -> Result<Bench, CallError>
         ensures { C.next_of (bench_held self) result ≡ C.release_of (bench_held self) function }
     {
-        let bound = self.bound;
-        if !entries::is_bound(self.tables, bound, function) {
+        if !entries::is_bound(self.held, function) {
             return Err(CallError::Refused(Refusal {
                 fault: Fault::NotBound,
                 place: function as usize,
@@ -75,12 +75,12 @@ impl SoundBench {
     #[tactic(auto, using(crate::proofs::Shapes::held_shaped, crate::proofs::Finishing::entries_fit, crate::proofs::Finishing::entries_taken, crate::proofs::Finishing::mapping_laid, crate::proofs::Finishing::held_width, crate::proofs::Finishing::held_count, crate::proofs::Finishing::held_few))]
     fn write(self, lent: &mut [u32]) -> Result<usize, Refusal>
         requires { C.unbound_on (bench_held self) ≡ None }
-        ensures answer { result ≡ W.written_of self.tables.tables.nsources lent.old }
+        ensures answer { result ≡ W.written_of self.held.tables.tables.nsources lent.old }
         ensures written { lent.new ≡ W.lent_after (C.mapping_on (bench_held self)) lent.old }
     {
-        let tables = self.tables.tables;
+        let tables = self.held.tables.tables;
         let nsources = tables.nsources as usize;
-        let bound = self.bound;
+        let bound = self.held.bound;
         writer::write_mapping(tables.width, &bound[..nsources], self.glue, lent)
     }
 
@@ -90,8 +90,7 @@ impl SoundBench {
         ensures answer { C.gives (bench_held self) result ≡ C.finish_of (bench_held self) lent.old }
         ensures written { lent.new ≡ C.lent_after_finish (bench_held self) lent.old }
     {
-        let bound = self.bound;
-        if let Some(unbound) = entries::unbound_on(self.tables, bound) {
+        if let Some(unbound) = entries::unbound_on(self.held) {
             return Err(CallError::Refused(Refusal {
                 fault: Fault::Unbound,
                 place: unbound as usize,

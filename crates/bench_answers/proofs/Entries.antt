@@ -1,12 +1,10 @@
 -- The lines that are left of a bench's entries, by the next one and at their end; and the room for them.
 use mathlib.Core.Path.{◌≡◌, refl, sym, ap, ◌∙◌}
-use mathlib.Core.List.{List, ◌++◌, append-nil}
-use Prim.Native.Nat.{ℕ, ◌+◌, ◌≤◌, ◌<◌}
+use mathlib.Core.List.{List, [], ◌∷◌, ◌++◌, append-nil}
+use Prim.Native.Nat.{ℕ, ◌+◌, ◌≤◌, ◌<◌, min}
 use native.Mathlib.Omega.{arith}
-use lib.ListN.{length, drop, get_or, drop_of_length-le}
+use lib.ListN.{length}
 use lib.Seq.{take_all}
-use Rattle.words.proofs.Lists.{drop-next}
-use Rattle.text.specs.Text.{room}
 use Rattle.sequence.specs.Limits.{most_sources}
 use Rattle.soundness.specs.Sound.{sources_on}
 use Rattle.soundness.proofs.Shapes.{sources_fit, sources_taken}
@@ -17,25 +15,22 @@ use Rattle.bench_answers.specs.Asked.{most_text_bytes, EntryRoom}
 
 -- ---- all of them
 
-pub entry_next : (sources bound : List ℕ) (i : ℕ) → i < length sources → length sources ≤ length bound
-    → entry_lines (drop i sources) (drop i bound)
-    ≡ entry_line (get_or sources i 0) (get_or bound i 0) ++ entry_lines (drop (i + 1) sources) (drop (i + 1) bound)
+pub entry_first : (sources bound ss ws : List ℕ) (s w : ℕ) → sources ≡ s ∷ ss → bound ≡ w ∷ ws
+    → entry_lines sources bound ≡ entry_line s w ++ entry_lines ss ws
 unfolding entry_lines
-entry_next sources bound i h l = rw (drop-next sources i h, drop-next bound i (omega arith)) refl
+entry_first sources bound ss ws s w e f = rw (e, f) refl
 
-pub entries_end : (text sources bound : List ℕ) (i : ℕ) → length sources ≤ i → text ++ entry_lines (drop i sources) (drop i bound) ≡ text
+pub no_entries : (text sources bound : List ℕ) → min (length sources) (length bound) ≤ 0 → text ++ entry_lines sources bound ≡ text
 unfolding entry_lines
-entries_end text sources bound i h = rw (drop_of_length-le sources h) (append-nil text)
+no_entries text [] bound h = append-nil text
+no_entries text (s ∷ sources) [] h = append-nil text
+no_entries text (s ∷ sources) (w ∷ bound) h = absurd (omega arith)
 
 -- ---- a bench
 
 module _ (b : Bench) (h : Shaped b) (text : List ℕ) where
-  pub full_room : length text + most_text_bytes ≤ room → EntryRoom b.tables.sources b.bound text
-  full_room r =
-      record {
-        entries = omega (arith, h.bound_entries, h.tables_shaped.sources_entries);
-        lines = omega (arith, h.tables_shaped.sources_entries);
-      }
+  pub full_room : (room : ℕ) → length text + most_text_bytes ≤ room → EntryRoom room b.tables.sources text
+  full_room room r = omega (arith, h.tables_shaped.sources_entries)
 
   -- a table that is full
   pub full_table : (new : List ℕ) → most_sources < b.tables.nsources → new ≡ text ++ entry_lines b.tables.sources b.bound → new ≡ text ++ bench_text b
@@ -50,5 +45,5 @@ module _ (b : Bench) (h : Shaped b) (text : List ℕ) where
     pub few_taken : b.tables.nsources ≡ length (sources_on b.tables)
     few_taken = sources_taken b.tables h.tables_shaped few
 
-    pub few_room : length text + most_text_bytes ≤ room → EntryRoom (sources_on b.tables) b.bound text
-    few_room r = record { entries = omega (arith, h.bound_entries, few_taken); lines = omega (arith, few_taken) }
+    pub few_room : (room : ℕ) → length text + most_text_bytes ≤ room → EntryRoom room (sources_on b.tables) text
+    few_room room r = omega (arith, few_taken)

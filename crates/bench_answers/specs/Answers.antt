@@ -2,7 +2,7 @@
 use Rattle.std.specs.Prelude.{ℕ, Option, None, Some, ◌≡◌, List, [], ◌∷◌, ◌++◌, Result, Ok, Err, eqb, take, if◌then◌else◌, ⊤, is_ok}
 use Rattle.std.specs.Result.{result_unwrap_or}
 use Rattle.words.specs.Field.{source_function}
-use Rattle.words.specs.Paper.{refusal}
+use Rattle.words.specs.declared.Refusal.{Refusal}
 use Rattle.text.specs.Text.{bytes, name_of}
 use Rattle.lines.specs.Lines.{refused_line, wrong_line}
 use Rattle.listing.specs.Listing.{binding_line, glue_line, mapped_text}
@@ -10,7 +10,7 @@ use Rattle.writer.specs.Write.{binding_word}
 use Rattle.soundness.specs.Sound.{nothing, sources_on}
 use Rattle.console.specs.declared.Failed.{Failed}
 use Rattle.input.specs.declared.Input.{Input}
-use Rattle.input.specs.Read.{cut_at}
+use Rattle.input.specs.Read.{cut}
 use Rattle.commands.specs.declared.Command.{Command}
 use Rattle.commands.specs.declared.Command.TheVariants as command
 use Rattle.bench.specs.Calls.{refuses, bench_of_zeros, open_of, Binds, release_of, price_of, finish_of, lent_after_finish}
@@ -19,7 +19,6 @@ use Rattle.bench.specs.declared.After.{After}
 use Rattle.bench.specs.declared.CallError.{CallError}
 use Rattle.bench.specs.declared.CallError.TheVariants.{Refused, Wrong}
 use Rattle.bench_answers.specs.declared.Worked.{Worked}
-use Rattle.words.specs.declared.Fault.TheVariants.{OutOfSequence}
 
 -- ---- the text of an answer
 
@@ -48,12 +47,12 @@ pub record SaysCall {A : Type 0} (call : After A) (given : A → List ℕ) (word
 
 -- ---- the job's file: "a last word cut short is 2 at its index, before all else"
 
-abbrev pub open_at : Option ℕ → List ℕ → After ⊤
-open_at (Some place) job = refuses bench_of_zeros (refusal OutOfSequence place)
+abbrev pub open_at : Option Refusal → List ℕ → After ⊤
+open_at (Some r) job = refuses bench_of_zeros r
 open_at None job = open_of job
 
 unfoldable pub open_input : Input → After ⊤
-open_input input = open_at (cut_at input) input.words
+open_input input = open_at (cut input) input.words
 
 -- the bench, of a job that is opened
 abbrev pub opened_bench : After ⊤ → Option Bench

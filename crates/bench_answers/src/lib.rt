@@ -2,7 +2,6 @@
 #![tactic(auto)]
 
 ghost use Rattle.std.specs.Prelude.{◌≡◌, ◌+◌, ◌≤◌, ◌++◌, length};
-ghost use Rattle.text.specs.Text.{room};
 ghost use Rattle.lines.specs.Lines.{most_line_bytes};
 ghost use Rattle.bench.specs.Calls as B;
 ghost use Rattle.listing.specs.Listing as L;
@@ -16,9 +15,9 @@ use input::Input;
 use sequence::MOST_SOURCES;
 use soundness::NOTHING;
 use text::Text;
-use words::{Fault, Refusal};
 
 // The bench after a command, and how many words of a mapping were written.
+// Kept: 0 words is a count, as none were written then; an `Option` would say no more.
 #[derive(Clone, Copy)]
 pub struct Worked {
     pub bench: Bench,
@@ -26,8 +25,8 @@ pub struct Worked {
 }
 
 // The text of a refusal.
-fn put_error(error: CallError, text: &mut Text)
-    requires { length text.old + most_line_bytes ≤ room }
+fn put_error<const ROOM: usize>(error: CallError, text: &mut Text<ROOM>)
+    requires { length text.old + most_line_bytes ≤ ROOM }
     ensures { text.new ≡ text.old ++ S.error_text error }
 {
     match error {
@@ -37,8 +36,10 @@ fn put_error(error: CallError, text: &mut Text)
 }
 
 // The text of an answer, with what is said where the call is done.
-fn put_done(answer: Result<(), CallError>, done: &[u8], text: &mut Text)
-    requires { Q.LineRoom done.now text.old }
+// Kept: this and the two below differ in what is put where a call is done. One function with a closure would need what the closure puts in
+// its clauses, and each caller would say it again.
+fn put_done<const ROOM: usize>(answer: Result<(), CallError>, done: &[u8], text: &mut Text<ROOM>)
+    requires { Q.LineRoom ROOM done.now text.old }
     ensures { text.new ≡ text.old ++ S.answer_text (λ _. done.now) answer }
 {
     match answer {
@@ -48,8 +49,8 @@ fn put_done(answer: Result<(), CallError>, done: &[u8], text: &mut Text)
 }
 
 // The text of a price.
-fn put_count(answer: Result<u32, CallError>, text: &mut Text)
-    requires { length text.old + most_line_bytes ≤ room }
+fn put_count<const ROOM: usize>(answer: Result<u32, CallError>, text: &mut Text<ROOM>)
+    requires { length text.old + most_line_bytes ≤ ROOM }
     ensures { text.new ≡ text.old ++ S.answer_text L.glue_line answer }
 {
     match answer {
@@ -59,8 +60,12 @@ fn put_count(answer: Result<u32, CallError>, text: &mut Text)
 }
 
 // The text of the mapping that a finish wrote into lent words.
-fn put_mapping(answer: Result<usize, CallError>, lent: &[u32], text: &mut Text)
-    requires { Q.MappingRoom answer lent.now text.old }
+fn put_mapping<const ROOM: usize>(
+    answer: Result<usize, CallError>,
+    lent: &[u32],
+    text: &mut Text<ROOM>,
+)
+    requires { Q.MappingRoom ROOM answer lent.now text.old }
     ensures { text.new ≡ text.old ++ S.answer_text (S.written_text lent.now) answer }
 {
     match answer {
@@ -70,8 +75,8 @@ fn put_mapping(answer: Result<usize, CallError>, lent: &[u32], text: &mut Text)
 }
 
 // What is said of a bind or a release.
-fn say(call: After<()>, done: &[u8], text: &mut Text) -> Worked
-    requires { Q.LineRoom done.now text.old }
+fn say<const ROOM: usize>(call: After<()>, done: &[u8], text: &mut Text<ROOM>) -> Worked
+    requires { Q.LineRoom ROOM done.now text.old }
     ensures { S.SaysCall call (λ _. done.now) 0 text.old text.new result }
 {
     put_done(call.answer, done, text);
@@ -82,8 +87,8 @@ fn say(call: After<()>, done: &[u8], text: &mut Text) -> Worked
 }
 
 // What is said of a price.
-fn price(bench: Bench, text: &mut Text) -> Worked
-    requires { length text.old + most_line_bytes ≤ room }
+fn price<const ROOM: usize>(bench: Bench, text: &mut Text<ROOM>) -> Worked
+    requires { length text.old + most_line_bytes ≤ ROOM }
     ensures { S.SaysCall (B.price_of bench) L.glue_line 0 text.old text.new result }
 {
     let call = bench.price();
@@ -95,8 +100,8 @@ fn price(bench: Bench, text: &mut Text) -> Worked
 }
 
 // The line of a source: what is bound to it, or that nothing is.
-fn entry_line(source: u32, word: u32, text: &mut Text)
-    requires { length text.old + L.most_binding_bytes ≤ room }
+fn entry_line<const ROOM: usize>(source: u32, word: u32, text: &mut Text<ROOM>)
+    requires { length text.old + L.most_binding_bytes ≤ ROOM }
     ensures short { length text.new ≤ length text.old + L.most_binding_bytes }
     ensures text { text.new ≡ text.old ++ S.entry_line source word }
 {
@@ -109,20 +114,20 @@ fn entry_line(source: u32, word: u32, text: &mut Text)
 }
 
 // The lines of sources, with what is bound in the entry of each.
-#[tactic(auto, using(std::proofs::lemmas::List::append_assoc, crate::proofs::Entries::entry_next, crate::proofs::Entries::entries_end))]
-fn put_entries(sources: &[u32], bound: &[u32], text: &mut Text)
-    requires { Q.EntryRoom sources.now bound.now text.old }
+#[tactic(auto, using(std::proofs::lemmas::List::append_assoc, crate::proofs::Entries::entry_first, crate::proofs::Entries::no_entries))]
+fn put_entries<const ROOM: usize>(sources: &[u32], bound: &[u32], text: &mut Text<ROOM>)
+    requires { Q.EntryRoom ROOM sources.now text.old }
     ensures { text.new ≡ text.old ++ S.entry_lines sources.now bound.now }
 {
-    for (i, source) in sources.iter().enumerate() {
-        entry_line(*source, bound[i], text);
+    for (source, word) in sources.iter().zip(bound) {
+        entry_line(*source, *word, text);
     }
 }
 
 // A line for each source of a bench.
 #[tactic(auto, using(bench::proofs::Shapes::shaped, crate::proofs::Entries::full_room, crate::proofs::Entries::full_table, crate::proofs::Entries::few_fit, crate::proofs::Entries::few_taken, crate::proofs::Entries::few_room))]
-fn put_bench(bench: Bench, text: &mut Text)
-    requires { length text.old + Q.most_text_bytes ≤ room }
+fn put_bench<const ROOM: usize>(bench: Bench, text: &mut Text<ROOM>)
+    requires { length text.old + Q.most_text_bytes ≤ ROOM }
     ensures { text.new ≡ text.old ++ S.bench_text bench }
 {
     let tables = bench.tables;
@@ -137,8 +142,8 @@ fn put_bench(bench: Bench, text: &mut Text)
 }
 
 // A text that no call answers.
-fn say_text(bench: Bench, said: &[u8], text: &mut Text) -> Worked
-    requires { length text.old + length said.now ≤ room }
+fn say_text<const ROOM: usize>(bench: Bench, said: &[u8], text: &mut Text<ROOM>) -> Worked
+    requires { length text.old + length said.now ≤ ROOM }
     ensures { S.SaysText said.now text.old text.new bench result }
 {
     text.put(said);
@@ -146,8 +151,8 @@ fn say_text(bench: Bench, said: &[u8], text: &mut Text) -> Worked
 }
 
 // What is bound, shown.
-fn show(bench: Bench, text: &mut Text) -> Worked
-    requires { length text.old + Q.most_text_bytes ≤ room }
+fn show<const ROOM: usize>(bench: Bench, text: &mut Text<ROOM>) -> Worked
+    requires { length text.old + Q.most_text_bytes ≤ ROOM }
     ensures { S.SaysText (S.bench_text bench) text.old text.new bench result }
 {
     put_bench(bench, text);
@@ -163,8 +168,8 @@ fn words_of(answer: Result<usize, CallError>) -> usize
 
 // What is said of a finish. The mapping is written into lent words.
 #[tactic(auto, using(crate::proofs::Within::finish_within_now, crate::proofs::Within::words_within))]
-fn finish(bench: Bench, lent: &mut [u32], text: &mut Text) -> Worked
-    requires { Q.Room lent.old text.old }
+fn finish<const ROOM: usize>(bench: Bench, lent: &mut [u32], text: &mut Text<ROOM>) -> Worked
+    requires { Q.Room ROOM lent.old text.old }
     ensures fits { result.words ≤ length lent.old }
     ensures said { S.SaysFinish bench lent.old lent.new text.old text.new result }
 {
@@ -177,8 +182,13 @@ fn finish(bench: Bench, lent: &mut [u32], text: &mut Text) -> Worked
 }
 
 // What is said of a command. A mapping is written into lent words.
-fn obey(bench: Bench, command: Command, lent: &mut [u32], text: &mut Text) -> Worked
-    requires { Q.Room lent.old text.old }
+fn obey<const ROOM: usize>(
+    bench: Bench,
+    command: Command,
+    lent: &mut [u32],
+    text: &mut Text<ROOM>,
+) -> Worked
+    requires { Q.Room ROOM lent.old text.old }
     ensures fits { result.words ≤ length lent.old }
     ensures said { S.SaysCommand command bench lent.old lent.new text.old text.new result }
 {
@@ -199,8 +209,13 @@ fn obey(bench: Bench, command: Command, lent: &mut [u32], text: &mut Text) -> Wo
 }
 
 // What is said of a line: of its command, or that it is none.
-pub fn work(bench: Bench, command: Option<Command>, lent: &mut [u32], text: &mut Text) -> Worked
-    requires { Q.Room lent.old text.old }
+pub fn work<const ROOM: usize>(
+    bench: Bench,
+    command: Option<Command>,
+    lent: &mut [u32],
+    text: &mut Text<ROOM>,
+) -> Worked
+    requires { Q.Room ROOM lent.old text.old }
     ensures fits { result.words ≤ length lent.old }
     ensures said { S.Says command bench lent.old lent.new text.old text.new result }
 {
@@ -215,21 +230,18 @@ pub fn work(bench: Bench, command: Option<Command>, lent: &mut [u32], text: &mut
 fn open_input(input: &Input) -> After<()>
     ensures { result ≡ S.open_input input.now }
 {
-    match input.cut_at() {
-        Some(place) => After {
+    if let Some(refusal) = input.cut() {
+        return After {
             bench: bench::zeros(),
-            answer: Err(CallError::Refused(Refusal {
-                fault: Fault::OutOfSequence,
-                place,
-            })),
-        },
-        None => Bench::open(input.words()),
+            answer: Err(CallError::Refused(refusal)),
+        };
     }
+    Bench::open(input.words())
 }
 
 // What is said of a job's file, if it could be read; and its bench, if it was opened.
-pub fn open(input: Result<Input, Failed>, text: &mut Text) -> Option<Bench>
-    requires { length text.old + most_line_bytes ≤ room }
+pub fn open<const ROOM: usize>(input: Result<Input, Failed>, text: &mut Text<ROOM>) -> Option<Bench>
+    requires { length text.old + most_line_bytes ≤ ROOM }
     ensures { S.SaysInput input text.old text.new result }
 {
     let Ok(input) = input else {

@@ -2,7 +2,7 @@
 use accounts::sound;
 use accounts::sound::{BenchWords, Table};
 use bench::{After, Bench, CallError};
-use reference::answer::{Answer, Given, Subject, wrong};
+use reference::answer::{Answer, Given, Subject};
 use soundness::Tables;
 use testing::words::{JOB, LENT, MAPPING, lent_holds};
 use words::Prices;
@@ -59,17 +59,10 @@ fn words_of(bench: Bench) -> BenchWords {
 
 // The answer to a call with a rule, 0 where it has none, on a bench of a width.
 fn answer_of(answer: Result<Given, CallError>, rule: u32, n: u32) -> Answer {
-    match answer {
-        Ok(given) => Ok(given),
-        Err(CallError::Refused(refusal)) => Err(told::refusal_of(Subject::Word, refusal)),
-        Err(CallError::Wrong(witness)) => {
-            Err(wrong(
-                Subject::Word,
-                witness.function,
-                told::is_shown(rule, n, witness),
-            ))
-        }
-    }
+    answer.map_err(|error| match error {
+        CallError::Refused(refusal) => told::refusal_of(Subject::Word, refusal),
+        CallError::Wrong(witness) => told::wrong_of(rule, n, witness),
+    })
 }
 
 // What a call answers, the bench that comes back, and the words lent to it: whether all are untouched, and whether the printed mapping
@@ -134,6 +127,5 @@ pub fn is_accepted(words: BenchWords) -> bool {
     let bench = bench_of(words);
     let mut lent = [LENT; 6];
     let after = bench.finish(&mut lent);
-    let checked = checker::check(&JOB, &lent);
-    if let Ok(()) = checked { true } else { false }
+    checker::check(&JOB, &lent).is_ok()
 }

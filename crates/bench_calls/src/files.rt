@@ -1,5 +1,6 @@
 // The rules of the mapping that document 01 prints, and benches put together without the library.
 use accounts::sound::{BenchWords, Prices, Table};
+use testing::kinds::Kind;
 use testing::words::{JOB, after, first, word_of};
 
 // In the order of the printed job's sources.
@@ -66,7 +67,7 @@ fn inhibit_bench(width: u32) -> BenchWords {
 }
 
 // The words of a kind for all functions.
-fn of_all_functions(kind: u32) -> [u32; 27] {
+fn of_all_functions(kind: Kind) -> [u32; 27] {
     let mut words = [0u32; 27];
     for (word, function) in words.iter_mut().zip(1..28) {
         *word = word_of(kind, function);
@@ -83,9 +84,9 @@ pub fn whole_bench(width: u32) -> BenchWords {
             gate: 5,
             multiplexer: 7,
         },
-        sources: Table::of(&of_all_functions(3)),
-        targets: Table::of(&of_all_functions(4)),
-        bound: of_all_functions(5),
+        sources: Table::of(&of_all_functions(Kind::Source)),
+        targets: Table::of(&of_all_functions(Kind::Target)),
+        bound: of_all_functions(Kind::Rule),
         glue: 0,
     };
     bench.counted()

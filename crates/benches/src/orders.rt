@@ -7,7 +7,7 @@ use reference::answer::Given;
 use testing::tally::more;
 
 // Orders tried; those in which every bind was done; that end in the stored bench; and in the printed words.
-#[derive(Clone, Copy)]
+#[derive(Clone, Copy, Default)]
 struct Orders {
     tried: u64,
     done: u64,
@@ -54,12 +54,7 @@ fn with_order(all: Orders, code: u32) -> Orders {
 }
 
 fn with_orders() -> Orders {
-    let mut all = Orders {
-        tried: 0,
-        done: 0,
-        same: 0,
-        written: 0,
-    };
+    let mut all = Orders::default();
     for code in 0..256 {
         if is_order(code) {
             all = with_order(all, code);

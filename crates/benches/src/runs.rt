@@ -2,7 +2,7 @@
 use crate::orders::writes_the_mapping;
 use accounts::sound::BenchWords;
 use bench_calls::calls::Told;
-use bench_calls::files::{RULES, WRONG_LT_RULE};
+use bench_calls::files::{ADD_RULE, AND_RULE, LT_RULE, RSUB_RULE, WRONG_LT_RULE};
 use bench_calls::{calls, lines};
 use reference::answer::{Given, Subject, refused};
 use testing::tally::more;
@@ -20,8 +20,8 @@ const REFUSED: [(u32, u32); 8] = [
     (0x5C8A_240B, 10),
 ];
 
-// The lowest source that is not bound, before each bind.
-const UNBOUND: [usize; 4] = [1, 3, 8, 25];
+// The rules that are bound, each with the lowest source that is not bound before it.
+const BINDS: [(u32, usize); 4] = [(ADD_RULE, 1), (RSUB_RULE, 3), (AND_RULE, 8), (LT_RULE, 25)];
 
 // The bench of a run; its calls that were to be refused; those that were, as expected; those that left the bench, and the lent words,
 // as they were; and the binds that were done.
@@ -105,8 +105,8 @@ fn with_step(run: Run, rule: u32, unbound: usize) -> Run {
 
 fn with_steps() -> Run {
     let mut run = begun();
-    for (rule, unbound) in RULES.iter().zip(&UNBOUND) {
-        run = with_step(run, *rule, *unbound);
+    for (rule, unbound) in BINDS {
+        run = with_step(run, rule, unbound);
     }
     run
 }

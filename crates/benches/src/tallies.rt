@@ -6,22 +6,14 @@ use bench_calls::files::{ADD_RULE, AND_RULE, LT_RULE, Made, RSUB_RULE, whole_ben
 use reference::answer::{Given, Subject, refused};
 use testing::say;
 use testing::tally::more;
-use testing::words::{at, printed_word, put};
+use testing::words::{JOB, MAPPING, at, put};
 
 // Benches tried, those that the reference calls sound, and those on which the bench's calls say otherwise.
-#[derive(Clone, Copy)]
+#[derive(Clone, Copy, Default)]
 struct Tally {
     tried: u64,
     sound: u64,
     differ: u64,
-}
-
-fn empty() -> Tally {
-    Tally {
-        tried: 0,
-        sound: 0,
-        differ: 0,
-    }
 }
 
 // Refused with 20 where the bench is not sound, and only there; refused, the bench and the lent words are as they were.
@@ -115,39 +107,55 @@ fn in_each_price(bench: BenchWords, bit: u8) -> [BenchWords; 3] {
     [inverter, gate, multiplexer].map(|prices| BenchWords { prices, ..bench })
 }
 
-// Benches as they are, or each with its count set right.
-fn with_all(all: Tally, benches: &[BenchWords], anew: bool) -> Tally {
+// The count that a bench stores once it is changed: the one from before, or the right one.
+#[derive(Clone, Copy)]
+enum Stored {
+    Before,
+    Anew,
+}
+
+use Stored::{Anew, Before};
+
+impl Stored {
+    fn set(self, bench: BenchWords) -> BenchWords {
+        match self {
+            Before => bench,
+            Anew => bench.counted(),
+        }
+    }
+}
+
+fn with_all(all: Tally, benches: &[BenchWords], stored: Stored) -> Tally {
     let mut all = all;
     for bench in benches {
-        all = with(all, if anew { bench.counted() } else { *bench });
+        all = with(all, stored.set(*bench));
     }
     all
 }
 
-fn with_each_bit(bench: BenchWords, anew: bool) -> Tally {
-    let mut all = empty();
+fn with_each_bit(bench: BenchWords, stored: Stored) -> Tally {
+    let mut all = Tally::default();
     for i in 0..32u32 {
         let bit = 1u32 << (i % 32);
         for entry in 0..27 {
             let turned = in_each_table(bench, entry, |word| word ^ bit);
-            all = with_all(all, &turned, anew);
+            all = with_all(all, &turned, stored);
         }
-        all = with_all(all, &in_each_number(bench, bit), anew);
+        all = with_all(all, &in_each_number(bench, bit), stored);
     }
     for i in 0..8u32 {
-        all = with_all(all, &in_each_price(bench, 1u8 << (i % 8)), anew);
+        all = with_all(all, &in_each_price(bench, 1u8 << (i % 8)), stored);
     }
     all
 }
 
 // The words of the printed job and of its mapping, and 0, in each entry of the three tables.
-fn with_each_word(bench: BenchWords, anew: bool) -> Tally {
-    let mut all = empty();
-    for i in 0..21 {
-        let word = printed_word(i);
+fn with_each_word(bench: BenchWords, stored: Stored) -> Tally {
+    let mut all = Tally::default();
+    for word in JOB.iter().chain(&MAPPING).chain(&[0]) {
         for entry in 0..27 {
-            let replaced = in_each_table(bench, entry, |_| word);
-            all = with_all(all, &replaced, anew);
+            let replaced = in_each_table(bench, entry, |_| *word);
+            all = with_all(all, &replaced, stored);
         }
     }
     all
@@ -155,7 +163,7 @@ fn with_each_word(bench: BenchWords, anew: bool) -> Tally {
 
 fn report_group(rt: &HostRuntime, name: &[u8], all: Tally) {
     say::text(rt, name);
-    let unsound = std::num::wrapping_sub_u64(all.tried, all.sound);
+    let unsound = all.tried.wrapping_sub(all.sound);
     let _ = println!(rt;
         ": {} tried, {} sound, {unsound} not, {} differ",
         all.tried, all.sound, all.differ
@@ -164,11 +172,11 @@ fn report_group(rt: &HostRuntime, name: &[u8], all: Tally) {
 
 fn report_bench(rt: &HostRuntime, name: &[u8], bench: BenchWords) {
     say::text(rt, name);
-    report_group(rt, b"\n    as it is", with(empty(), bench));
-    report_group(rt, b"    a bit turned", with_each_bit(bench, false));
-    report_group(rt, b"    and counted anew", with_each_bit(bench, true));
-    report_group(rt, b"    a word replaced", with_each_word(bench, false));
-    report_group(rt, b"    and counted anew", with_each_word(bench, true));
+    report_group(rt, b"\n    as it is", with(Tally::default(), bench));
+    report_group(rt, b"    a bit turned", with_each_bit(bench, Before));
+    report_group(rt, b"    and counted anew", with_each_bit(bench, Anew));
+    report_group(rt, b"    a word replaced", with_each_word(bench, Before));
+    report_group(rt, b"    and counted anew", with_each_word(bench, Anew));
 }
 
 pub fn report(rt: &HostRuntime) {

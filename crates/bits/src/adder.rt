@@ -27,7 +27,7 @@ fn add(operands: Operands, c: bool) -> CutSum
     ensures { result ≡ cut operands.width.n (operands.left + operands.right + B.num c) }
 {
     let Operands { width, left, right } = operands;
-    let s = std::num::wrapping_add_u64(std::num::wrapping_add_u64(left, right), u64::from(c));
+    let s = left.wrapping_add(right).wrapping_add(u64::from(c));
     if width.n < 64 {
         let m = ones(width);
         return CutSum {

@@ -1,6 +1,9 @@
 // Words of n bits, n from 1 to 64: what wiring and carry codes give of them, their sums, logic vectors and order.
 #![tactic(auto)]
 
+ghost use Rattle.std.specs.Prelude.{◌≡◌, ◌<◌};
+ghost use Rattle.bits.specs.Bits as B;
+
 mod adder;
 mod logic;
 mod operands;
@@ -32,6 +35,15 @@ pub const CARRY_ZERO: u32 = 0;
 pub const CARRY_ONE: u32 = 1;
 
 pub const ICIN: u32 = 2;
+
+// A bit of a set.
+#[tactic(auto, unfolding(crate::specs::Bits::bit))]
+pub fn bit(set: u64, at: u32) -> bool
+    requires { at < 64 }
+    ensures { result ≡ B.bit set at }
+{
+    (set >> at) % 2 == 1
+}
 
 // What is shown: O0, OCOUT, OVF and O1. An undriven port shows 0.
 #[derive(Clone, Copy)]

@@ -28,7 +28,7 @@ fn mask(width: Width, bit: u64) -> u64
     requires { bit < 2 }
     ensures { result ≡ bit * (2 ^ width.n - 1) }
 {
-    std::num::wrapping_sub_u64(0, bit) & ones(width)
+    0u64.wrapping_sub(bit) & ones(width)
 }
 
 // The word that a wiring code gives of two words. The rest of the code chooses the word, its low bit complements it.

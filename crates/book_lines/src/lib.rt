@@ -2,7 +2,6 @@
 #![tactic(auto)]
 
 ghost use Rattle.std.specs.Prelude.{◌≡◌, ◌+◌, ◌++◌, ◌≤◌, length};
-ghost use Rattle.text.specs.Text.{room};
 ghost use Rattle.book_lines.specs.BookLines as B;
 
 use book::Rule;
@@ -35,8 +34,8 @@ const RECORDS: [&str; 256] = [
 
 // Puts the name of the record that a rule comes from.
 #[tactic(auto, unfolding(crate::specs::BookLines::records, crate::specs::BookLines::record_of, book::specs::Book::book))]
-fn put_record(rule: Rule, line: &mut Text)
-    requires { length line.old + B.most_record_bytes ≤ room }
+fn put_record<const ROOM: usize>(rule: Rule, line: &mut Text<ROOM>)
+    requires { length line.old + B.most_record_bytes ≤ ROOM }
     ensures short { length line.new ≤ length line.old + B.most_record_bytes }
     ensures text { line.new ≡ line.old ++ B.record_of rule.index }
 {
@@ -45,8 +44,8 @@ fn put_record(rule: Rule, line: &mut Text)
 
 // Puts the line of a rule.
 #[tactic(auto, unfolding(crate::specs::BookLines::rule_line))]
-pub fn put_rule(rule: Rule, line: &mut Text)
-    requires { length line.old + B.most_rule_bytes ≤ room }
+pub fn put_rule<const ROOM: usize>(rule: Rule, line: &mut Text<ROOM>)
+    requires { length line.old + B.most_rule_bytes ≤ ROOM }
     ensures short { length line.new ≤ length line.old + B.most_rule_bytes }
     ensures text { line.new ≡ line.old ++ B.rule_line rule.index }
 {

@@ -2,7 +2,6 @@
 #![tactic(auto)]
 
 ghost use Rattle.std.specs.Prelude.{◌≡◌, ◌+◌, ◌≤◌, ◌++◌, length};
-ghost use Rattle.text.specs.Text.{room};
 ghost use Rattle.lines.specs.Lines as L;
 ghost use Rattle.reader.specs.Job as J;
 ghost use Rattle.checker.specs.Check as C;
@@ -11,20 +10,16 @@ ghost use Rattle.check_answers.specs.Answers as S;
 use checker::CheckError;
 use console::Failed;
 use input::Input;
+use sequence::File;
 use text::Text;
-use words::{Fault, Refusal};
+use words::Refusal;
 
 // A mapping whose last word is cut short: the job's refusals come before it.
-fn cut_mapping(job: &[u32], end: usize) -> Result<(), CheckError>
-    ensures { result ≡ S.cut_mapping end (J.job_of job.now) }
+fn cut_mapping(job: &[u32], refusal: Refusal) -> Result<(), CheckError>
+    ensures { result ≡ S.cut_mapping refusal (J.job_of job.now) }
 {
-    match reader::read_job(job) {
-        Ok(_) => Err(CheckError::MappingRefused(Refusal {
-            fault: Fault::OutOfSequence,
-            place: end,
-        })),
-        Err(refusal) => Err(CheckError::JobRefused(refusal)),
-    }
+    reader::read_job(job).map_err(CheckError::JobRefused)?;
+    Err(CheckError::MappingRefused(refusal))
 }
 
 // The answer to two files that were read.
@@ -32,35 +27,36 @@ fn cut_mapping(job: &[u32], end: usize) -> Result<(), CheckError>
 fn check_files(job: &Input, mapping: &Input) -> Result<(), CheckError>
     ensures { C.CheckRuled (S.files_ruling job.now mapping.now) result }
 {
-    if let Some(place) = job.cut_at() {
-        return Err(CheckError::JobRefused(Refusal {
-            fault: Fault::OutOfSequence,
-            place,
-        }));
+    if let Some(refusal) = job.cut() {
+        return Err(CheckError::JobRefused(refusal));
     }
-    if let Some(place) = mapping.cut_at() {
-        return cut_mapping(job.words(), place);
+    if let Some(refusal) = mapping.cut() {
+        return cut_mapping(job.words(), refusal);
     }
     checker::check(job.words(), mapping.words())
 }
 
 // The text of a refusal.
-fn put_refused(error: CheckError, text: &mut Text)
-    requires { length text.old + L.most_line_bytes ≤ room }
+fn put_refused<const ROOM: usize>(error: CheckError, text: &mut Text<ROOM>)
+    requires { length text.old + L.most_line_bytes ≤ ROOM }
     ensures short { length text.new ≤ length text.old + L.most_line_bytes }
     ensures text { text.new ≡ text.old ++ S.refused_text error }
 {
     match error {
-        CheckError::JobRefused(refusal) => lines::refused_file_line(refusal, false, text),
-        CheckError::MappingRefused(refusal) => lines::refused_file_line(refusal, true, text),
+        CheckError::JobRefused(refusal) => lines::refused_file_line(refusal, File::AsJob, text),
+        CheckError::MappingRefused(refusal) => lines::refused_file_line(
+            refusal,
+            File::AsMapping,
+            text,
+        ),
         CheckError::Refused(refusal) => lines::refused_line(refusal, text),
         CheckError::Wrong(witness) => lines::wrong_line(witness, text),
     }
 }
 
 // The text of the checker's answer.
-fn put_checked(checked: Result<(), CheckError>, text: &mut Text)
-    requires { length text.old + L.most_line_bytes ≤ room }
+fn put_checked<const ROOM: usize>(checked: Result<(), CheckError>, text: &mut Text<ROOM>)
+    requires { length text.old + L.most_line_bytes ≤ ROOM }
     ensures short { length text.new ≤ length text.old + L.most_line_bytes }
     ensures text { text.new ≡ text.old ++ S.checked_text checked }
 {
@@ -71,8 +67,12 @@ fn put_checked(checked: Result<(), CheckError>, text: &mut Text)
 }
 
 // What check_mapping says of its two files; nothing, if one of them could not be read.
-pub fn check_inputs(job: Result<Input, Failed>, mapping: Result<Input, Failed>, text: &mut Text)
-    requires { length text.old + L.most_line_bytes ≤ room }
+pub fn check_inputs<const ROOM: usize>(
+    job: Result<Input, Failed>,
+    mapping: Result<Input, Failed>,
+    text: &mut Text<ROOM>,
+)
+    requires { length text.old + L.most_line_bytes ≤ ROOM }
     ensures short { length text.new ≤ length text.old + L.most_line_bytes }
     ensures said { S.SaysChecked job mapping text.old text.new }
 {

@@ -2,15 +2,15 @@
 // written is said on standard error.
 #![tactic(auto)]
 
-use text::Text;
+use text::Said;
 
 // Checks the mapping of the two files.
 fn check(rt: &HostRuntime) {
     let job = input::read_file(rt, 1);
     let mapping = input::read_file(rt, 2);
-    let mut text = Text::new();
+    let mut text = Said::new();
     check_answers::check_inputs(job, mapping, &mut text);
-    console::print(rt, text.as_bytes());
+    let _ = console::print(rt, text.as_bytes());
 }
 
 fn main(rt: HostRuntime) {

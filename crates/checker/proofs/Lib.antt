@@ -1,1 +1,2 @@
 pub mod Rulings
+pub mod Ruled

@@ -7,14 +7,13 @@ ghost use Rattle.table.specs.Parts as T;
 ghost use Rattle.checker.specs.Check as C;
 ghost use Rattle.checker.specs.declared.CheckError.TheVariants.{Refused};
 
-use fitting::PairError;
-use reader::Mapping;
-use table::{JobWords, Terms};
+use fitting::{Pair, PairError};
 use verdict::Verdict;
 use words::{Fault, Refusal, Witness};
 
 // A refusal of the checker: the first, 1 to 6, of the job or of the mapping; another, 7, 8, 9 or 11; or 10, with its values.
-// Kept: cases alike to those of `PairError`, so that a caller sees at once whose refusal it is.
+// Kept: the three cases of `PairError` again. A case that holds one would have each caller take it apart in two steps; this way the three
+// are turned once, below.
 #[derive(Clone, Copy)]
 pub enum CheckError {
     JobRefused(Refusal),
@@ -45,13 +44,13 @@ impl From<PairError> for CheckError {
 
 // Whether the glue word says what the glue of the bindings is. The tables of a job have no part in that.
 #[tactic(auto, unfolding(crate::specs::Check::account_of))]
-fn account(terms: &Terms, mapping: Mapping, bindings: &[u32]) -> Result<(), CheckError>
-    ensures { result ≡ C.account_of (T.terms_held terms.now) mapping bindings.now }
+fn account(pair: &Pair) -> Result<(), CheckError>
+    ensures { result ≡ C.account_of (T.terms_held pair.now.terms) pair.now.mapping pair.now.bindings.now }
 {
-    if pricer::glue_of(terms, bindings) != mapping.glue {
+    if pricer::glue_of(&pair.terms, pair.bindings) != pair.mapping.glue {
         return Err(CheckError::Refused(Refusal {
             fault: Fault::OtherGlue,
-            place: reader::BINDINGS_START + bindings.len(),
+            place: reader::BINDINGS_START + pair.bindings.len(),
         }));
     }
     Ok(())
@@ -59,42 +58,36 @@ fn account(terms: &Terms, mapping: Mapping, bindings: &[u32]) -> Result<(), Chec
 
 // A mapping that fits its job: is it complete, right and rightly priced?
 #[tactic(auto, using(crate::proofs::Rulings::no_wrong, crate::proofs::Rulings::still_wrong), unfolding(crate::specs::Check::fitting_of))]
-fn judge_fitting(terms: &Terms, mapping: Mapping, bindings: &[u32]) -> Result<(), CheckError>
-    ensures { C.CheckRuled (C.fitting_of (T.terms_held terms.now) mapping bindings.now) result }
+fn judge_fitting(pair: &Pair) -> Result<(), CheckError>
+    ensures { C.CheckRuled (C.fitting_of (T.terms_held pair.now.terms) pair.now.mapping pair.now.bindings.now) result }
 {
-    if let Some(unbound) = completeness::first_unbound(terms.sources, bindings) {
+    if let Some(unbound) = completeness::first_unbound(pair.terms.sources, pair.bindings) {
         return Err(CheckError::Refused(Refusal {
             fault: Fault::Incomplete,
             place: unbound as usize,
         }));
     }
-    let verdict = rightness::first_wrong(terms, bindings);
+    let verdict = rightness::first_wrong(&pair.terms, pair.bindings);
     match verdict {
         Verdict::Wrong(witness) => Err(CheckError::Wrong(witness)),
-        Verdict::Right => account(terms, mapping, bindings),
+        Verdict::Right => account(pair),
     }
 }
 
-// A mapping that was read is judged against a job that was read.
+// A mapping that was read is judged against the job that was read with it.
 #[tactic(auto, unfolding(crate::specs::Check::judgement_of))]
-fn judge_mapping(terms: &Terms, mapping: Mapping, bindings: &[u32]) -> Result<(), CheckError>
-    ensures { C.CheckRuled (C.judgement_of (T.terms_held terms.now) mapping bindings.now) result }
+fn judge_mapping(pair: &Pair) -> Result<(), CheckError>
+    ensures { C.CheckRuled (C.judgement_of (T.terms_held pair.now.terms) pair.now.mapping pair.now.bindings.now) result }
 {
-    fitting::fit_of(terms, mapping, bindings)?;
-    judge_fitting(terms, mapping, bindings)
+    fitting::fit_of(pair)?;
+    judge_fitting(pair)
 }
 
 // The words of a job and of a mapping.
-#[tactic(auto, using(fitting::proofs::Pairs::job_read, fitting::proofs::Pairs::mapping_read), unfolding(crate::specs::Check::ruling_of))]
+#[tactic(auto, using(crate::proofs::Ruled::none_judged, crate::proofs::Ruled::pair_judged))]
 pub fn check(job: &[u32], mapping: &[u32]) -> Result<(), CheckError>
     ensures { C.Checks job.now mapping.now result }
 {
-    let (facts, bound) = fitting::read_pair(job, mapping)?;
-    let read = JobWords {
-        words: job,
-        job: facts,
-    };
-    let terms = read.terms();
-    let bindings = table::bindings_of(mapping, bound);
-    judge_mapping(&terms, bound, bindings)
+    let pair = Pair::read(job, mapping)?;
+    judge_mapping(&pair)
 }

@@ -1,10 +1,9 @@
 // The printed job and mapping, changed.
-// Kept: both stand in one array, the mapping after the job, since bits are turned in the one and the other alike.
-use crate::compare::{Tallies, compared, none, report};
-use rulings::checking::count_for;
-use std::num::{wrapping_add_u32, wrapping_add_usize};
+use crate::compare::{Tallies, compared, report};
+use rulings::checking::Pair;
 use std::ops::Range;
-use testing::words::{JOB, MAPPING, after, at, first, glue_word, put};
+use testing::kinds::Kind;
+use testing::words::{JOB, MAPPING, after, at, content, first, glue_word, put};
 
 // The words of the job; the bits of the job, and of both.
 const MIDDLE: usize = 14;
@@ -15,9 +14,18 @@ const BITS: u32 = 640;
 
 const BOOK_BIT: u32 = 7;
 
+// The job and the mapping of an array that holds both.
+// Kept: one array, the mapping after the job, since bits are turned in the one and the other alike.
+fn pair_of(both: &[u32]) -> Pair<'_> {
+    Pair {
+        job: first(both, MIDDLE),
+        mapping: after(both, MIDDLE),
+    }
+}
+
 fn rightly_priced(both: [u32; 20]) -> [u32; 20] {
     let mut words = both;
-    let count = count_for(first(&both, MIDDLE), after(&both, MIDDLE));
+    let count = pair_of(&both).glue_count();
     words[19] = glue_word(count);
     words
 }
@@ -33,7 +41,7 @@ fn printed_at(n: u32) -> [u32; 20] {
 }
 
 fn with_both(rt: &HostRuntime, all: Tallies, both: &[u32]) -> Tallies {
-    compared(rt, all, first(both, MIDDLE), after(both, MIDDLE))
+    compared(rt, all, &pair_of(both))
 }
 
 fn turned(both: [u32; 20], bit: u32) -> [u32; 20] {
@@ -55,9 +63,9 @@ fn with_each_bit(rt: &HostRuntime, all: Tallies, both: [u32; 20], bits: Range<u3
 // Each of these bits turned, with each bit of the mapping after it.
 fn two_bits(rt: &HostRuntime, n: u32, bits: Range<u32>) -> Tallies {
     let both = printed_at(n);
-    let mut all = none();
+    let mut all = Tallies::default();
     for bit in bits {
-        let start = JOB_BITS.max(wrapping_add_u32(bit, 1));
+        let start = JOB_BITS.max(bit.wrapping_add(1));
         all = with_each_bit(rt, all, turned(both, bit), start..BITS);
     }
     all
@@ -67,8 +75,11 @@ fn two_bits(rt: &HostRuntime, n: u32, bits: Range<u32>) -> Tallies {
 fn mapping_cut(rt: &HostRuntime, all: Tallies, both: &[u32]) -> Tallies {
     let mut all = all;
     for size in 0..6 {
-        let mapping = first(after(both, MIDDLE), size);
-        all = compared(rt, all, first(both, MIDDLE), mapping);
+        let pair = Pair {
+            mapping: first(after(both, MIDDLE), size),
+            ..pair_of(both)
+        };
+        all = compared(rt, all, &pair);
     }
     all
 }
@@ -77,7 +88,11 @@ fn mapping_cut(rt: &HostRuntime, all: Tallies, both: &[u32]) -> Tallies {
 fn job_cut(rt: &HostRuntime, all: Tallies, both: &[u32]) -> Tallies {
     let mut all = all;
     for size in 0..MIDDLE {
-        all = compared(rt, all, first(both, size), after(both, MIDDLE));
+        let pair = Pair {
+            job: first(both, size),
+            ..pair_of(both)
+        };
+        all = compared(rt, all, &pair);
     }
     all
 }
@@ -95,15 +110,23 @@ fn without(both: &[u32], index: usize) -> [u32; 5] {
         at(mapping, fourth),
         0,
     ];
-    let count = count_for(first(both, MIDDLE), &words);
+    let pair = Pair {
+        mapping: &words,
+        ..pair_of(both)
+    };
+    let count = pair.glue_count();
     words[4] = glue_word(count);
     words
 }
 
 fn a_binding_left_out(rt: &HostRuntime, both: [u32; 20]) -> Tallies {
-    let mut all = none();
+    let mut all = Tallies::default();
     for index in 1..5 {
-        all = compared(rt, all, first(&both, MIDDLE), &without(&both, index));
+        let pair = Pair {
+            mapping: &without(&both, index),
+            ..pair_of(&both)
+        };
+        all = compared(rt, all, &pair);
     }
     all
 }
@@ -116,17 +139,17 @@ fn with_rule(
     rule: usize,
     binding: usize,
 ) -> Tallies {
-    let word = at(&both, wrapping_add_usize(rule, 8));
+    let word = at(&both, rule.wrapping_add(8));
     let mut words = both;
-    let index = wrapping_add_usize(binding, MIDDLE + 1);
-    put(&mut words, index, word % 0x1000_0000 | 0x6000_0000);
+    let index = binding.wrapping_add(MIDDLE + 1);
+    put(&mut words, index, Kind::Binding.word(content(word)));
     let priced = rightly_priced(words);
     with_both(rt, with_both(rt, all, &words), &priced)
 }
 
 // Each of the six rules of the job instead of each of the four bindings.
 fn a_rule_bound(rt: &HostRuntime, both: [u32; 20]) -> Tallies {
-    let mut all = none();
+    let mut all = Tallies::default();
     for i in 0..24 {
         all = with_rule(rt, all, both, i % 6, i / 6);
     }
@@ -136,7 +159,7 @@ fn a_rule_bound(rt: &HostRuntime, both: [u32; 20]) -> Tallies {
 // The bit that asks for the book, in the header of neither, of the job, of the mapping and of both.
 fn the_book_asked_for(rt: &HostRuntime, both: [u32; 20]) -> Tallies {
     let asked = turned(both, BOOK_BIT);
-    let of_job = with_both(rt, with_both(rt, none(), &both), &asked);
+    let of_job = with_both(rt, with_both(rt, Tallies::default(), &both), &asked);
     let of_mapping = with_both(rt, of_job, &turned(both, JOB_BITS + BOOK_BIT));
     with_both(rt, of_mapping, &turned(asked, JOB_BITS + BOOK_BIT))
 }
@@ -144,13 +167,13 @@ fn the_book_asked_for(rt: &HostRuntime, both: [u32; 20]) -> Tallies {
 // One change after another, at a width.
 pub fn report_one_change(rt: &HostRuntime, n: u32) {
     let both = printed_at(n);
-    let printed = with_both(rt, none(), &both);
+    let printed = with_both(rt, Tallies::default(), &both);
     report(rt, b"as printed", n, printed);
-    let of_mapping = with_each_bit(rt, none(), both, JOB_BITS..BITS);
+    let of_mapping = with_each_bit(rt, Tallies::default(), both, JOB_BITS..BITS);
     report(rt, b"a bit of the mapping changed", n, of_mapping);
-    let of_job = with_each_bit(rt, none(), both, 0..JOB_BITS);
+    let of_job = with_each_bit(rt, Tallies::default(), both, 0..JOB_BITS);
     report(rt, b"a bit of the job changed", n, of_job);
-    let cut = job_cut(rt, mapping_cut(rt, none(), &both), &both);
+    let cut = job_cut(rt, mapping_cut(rt, Tallies::default(), &both), &both);
     report(rt, b"cut short", n, cut);
     report(rt, b"a binding left out", n, a_binding_left_out(rt, both));
     report(rt, b"a rule bound", n, a_rule_bound(rt, both));

@@ -1,69 +1,45 @@
 // The checker and the pricer, each beside the reference's.
 use checker::CheckError;
 use fitting::PairError;
-use reference::answer::{Refusal, Subject, refused, wrong};
-use rulings::checking::{check, price, wrong_is_borne_out};
+use reference::answer::{Refusal, Subject, wrong};
+use rulings::checking::Pair;
 use testing::say;
-use testing::tally::{Numbers, no_numbers, noted};
+use testing::tally::{Numbers, noted_or};
 
 // Of the checker and of the pricer.
-#[derive(Clone, Copy)]
+#[derive(Clone, Copy, Default)]
 pub struct Tallies {
     pub checks: Numbers,
     pub prices: Numbers,
 }
 
-pub fn none() -> Tallies {
-    Tallies {
-        checks: no_numbers(),
-        prices: no_numbers(),
-    }
-}
-
-// Whether refusal 10 is borne out: the operands are the checker's choice, so that they are tried.
-fn is_shown(job: &[u32], mapping: &[u32], witness: words::Witness) -> bool {
-    wrong_is_borne_out(job, mapping, told::witness_of(witness))
-}
-
-fn of_checked(answer: Result<(), CheckError>, job: &[u32], mapping: &[u32]) -> Result<(), Refusal> {
-    match answer {
-        Ok(()) => Ok(()),
-        Err(CheckError::JobRefused(refusal)) => Err(told::refusal_of(Subject::Job, refusal)),
-        Err(CheckError::MappingRefused(refusal)) => Err(told::refusal_of(
-            Subject::Mapping,
-            refusal,
-        )),
-        Err(CheckError::Refused(refusal)) => Err(told::refusal_of(Subject::Both, refusal)),
-        Err(CheckError::Wrong(witness)) => {
-            Err(wrong(
-                Subject::Both,
-                witness.function,
-                is_shown(job, mapping, witness),
-            ))
-        }
-    }
+// Refusal 10 is borne out by a trial, since its operands are the checker's choice.
+fn of_checked(answer: Result<(), CheckError>, pair: &Pair) -> Result<(), Refusal> {
+    answer.map_err(|error| match error {
+        CheckError::JobRefused(refusal) => told::refusal_of(Subject::Job, refusal),
+        CheckError::MappingRefused(refusal) => told::refusal_of(Subject::Mapping, refusal),
+        CheckError::Refused(refusal) => told::refusal_of(Subject::Both, refusal),
+        CheckError::Wrong(witness) => wrong(
+            Subject::Both,
+            witness.function,
+            pair.wrong_is_borne_out(told::witness_of(witness)),
+        ),
+    })
 }
 
 pub fn of_priced(answer: Result<u32, PairError>) -> Result<u32, Refusal> {
-    match answer {
-        Ok(count) => Ok(count),
-        Err(PairError::JobRefused(refusal)) => Err(told::refusal_of(Subject::Job, refusal)),
-        Err(PairError::MappingRefused(refusal)) => Err(told::refusal_of(Subject::Mapping, refusal)),
-        Err(PairError::Refused(refusal)) => Err(told::refusal_of(Subject::Both, refusal)),
-    }
+    answer.map_err(|error| match error {
+        PairError::JobRefused(refusal) => told::refusal_of(Subject::Job, refusal),
+        PairError::MappingRefused(refusal) => told::refusal_of(Subject::Mapping, refusal),
+        PairError::Refused(refusal) => told::refusal_of(Subject::Both, refusal),
+    })
 }
 
-fn say_difference(
-    rt: &HostRuntime,
-    what: &[u8],
-    number: Option<u32>,
-    job: &[u32],
-    mapping: &[u32],
-) {
+fn say_difference(rt: &HostRuntime, what: &[u8], number: Option<u32>, pair: &Pair) {
     say::text(rt, what);
     let _ = print!(rt; " differs, with {}", number.unwrap_or(0));
-    say::words(rt, b": job", job);
-    say::words(rt, b", mapping", mapping);
+    say::words(rt, b": job", pair.job);
+    say::words(rt, b", mapping", pair.mapping);
     say::text(rt, b"\n");
 }
 
@@ -74,38 +50,33 @@ fn with(
     all: Numbers,
     number: Option<u32>,
     same: bool,
-    job: &[u32],
-    mapping: &[u32],
+    pair: &Pair,
 ) -> Numbers {
-    let tally = all.tally;
-    if !same & (tally.differ == 0) {
-        say_difference(rt, what, number, job, mapping);
-    }
-    noted(all, number, same)
+    noted_or(all, number, same, || say_difference(rt, what, number, pair))
 }
 
-fn with_check(rt: &HostRuntime, all: Numbers, job: &[u32], mapping: &[u32]) -> Numbers {
-    let told = of_checked(checker::check(job, mapping), job, mapping);
+fn with_check(rt: &HostRuntime, all: Numbers, pair: &Pair) -> Numbers {
+    let told = of_checked(checker::check(pair.job, pair.mapping), pair);
     let is_shown_wrong = told.is_err_and(|refusal| (refusal.number == 10) & refusal.shown);
-    let same = is_shown_wrong | (told == check(job, mapping));
+    let same = is_shown_wrong | (told == pair.check());
     let number = told.err().map(|refusal| refusal.number);
-    with(rt, b"check", all, number, same, job, mapping)
+    with(rt, b"check", all, number, same, pair)
 }
 
-fn with_price(rt: &HostRuntime, all: Numbers, job: &[u32], mapping: &[u32]) -> Numbers {
-    let told = of_priced(pricer::price(job, mapping));
-    let same = told == price(job, mapping);
+fn with_price(rt: &HostRuntime, all: Numbers, pair: &Pair) -> Numbers {
+    let told = of_priced(pricer::price(pair.job, pair.mapping));
+    let same = told == pair.price();
     let number = told.err().map(|refusal| refusal.number);
-    with(rt, b"price", all, number, same, job, mapping)
+    with(rt, b"price", all, number, same, pair)
 }
 
 // One job and mapping more.
-pub fn compared(rt: &HostRuntime, all: Tallies, job: &[u32], mapping: &[u32]) -> Tallies {
+pub fn compared(rt: &HostRuntime, all: Tallies, pair: &Pair) -> Tallies {
     let checks = all.checks;
     let prices = all.prices;
     Tallies {
-        checks: with_check(rt, checks, job, mapping),
-        prices: with_price(rt, prices, job, mapping),
+        checks: with_check(rt, checks, pair),
+        prices: with_price(rt, prices, pair),
     }
 }
 

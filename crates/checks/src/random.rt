@@ -1,8 +1,9 @@
 // Random jobs with most targets, half of which ask for the book, and mappings of most of their sources, each binding right but for some
 // that have a bit turned. Now and then a source is left out, another is added, the width is another, or the count is.
-use crate::compare::{Tallies, compared, none};
+use crate::compare::{Tallies, compared};
 use reference::trial::next;
-use rulings::checking::count_for;
+use rulings::checking::Pair;
+use testing::kinds::Kind;
 use testing::words::{Words, from_scratch, glue_word, word_of};
 
 // No file of these has more words.
@@ -23,7 +24,7 @@ fn is_source(function: u32, random: u64) -> bool {
 // The word of a source, if the function is one.
 fn source_of(function: u32, random: u64) -> Option<u32> {
     if is_source(function, random) {
-        Some(word_of(3, function))
+        Some(word_of(Kind::Source, function))
     } else {
         None
     }
@@ -33,7 +34,7 @@ fn target_of(function: u32, random: u64) -> Option<u32> {
     if seldom(random, function | 32, 100) {
         None
     } else {
-        Some(word_of(4, function))
+        Some(word_of(Kind::Target, function))
     }
 }
 
@@ -53,9 +54,9 @@ fn bound_of(function: u32, random: u64) -> Option<u32> {
 
 // A binding of a function out of itself; or, half of those that can be, from scratch. Some have a bit turned.
 fn binding_of(function: u32, random: u64) -> u32 {
-    let word = from_scratch(6, function)
+    let word = from_scratch(Kind::Binding, function)
         .filter(|_| seldom(random, function | 64, 2))
-        .unwrap_or(word_of(6, function));
+        .unwrap_or(word_of(Kind::Binding, function));
     if seldom(random, function | 128, 30) {
         return word ^ (1u32 << (next(random) % 18));
     }
@@ -75,14 +76,14 @@ fn put_table<F: Fn(u32) -> Option<u32>>(file: &mut File, entry: F)
 
 fn begun(n: u32) -> File {
     let mut file = Words::empty();
-    file.push(0x1000_0000 | n);
+    file.push(Kind::Header.word(n));
     file
 }
 
 fn job_of(n: u32, random: u64) -> File {
     let asked = if seldom(random, 2048, 2) { 128 } else { 0 };
     let mut file = begun(n | asked);
-    file.push(0x2000_0000 | (next(random) % 0x100_0000) as u32);
+    file.push(Kind::Prices.word((next(random) % 0x100_0000) as u32));
     put_table(&mut file, |function| source_of(function, random));
     put_table(&mut file, |function| target_of(function, random));
     file
@@ -95,7 +96,11 @@ fn mapping_of(job: &[u32], n: u32, random: u64) -> File {
     // With a word where the glue count is to stand.
     let mut whole = file;
     whole.push(glue_word(0));
-    let count = count_for(job, whole.written());
+    let pair = Pair {
+        job,
+        mapping: whole.written(),
+    };
+    let count = pair.glue_count();
     let other = if seldom(random, 512, 6) {
         1 + random % 8
     } else {
@@ -108,12 +113,16 @@ fn mapping_of(job: &[u32], n: u32, random: u64) -> File {
 fn with_random(rt: &HostRuntime, all: Tallies, n: u32, random: u64) -> Tallies {
     let job = job_of(n, random);
     let mapping = mapping_of(job.written(), n, random);
-    compared(rt, all, job.written(), mapping.written())
+    let pair = Pair {
+        job: job.written(),
+        mapping: mapping.written(),
+    };
+    compared(rt, all, &pair)
 }
 
 // So many, at a width.
 pub fn random_files(rt: &HostRuntime, n: u32, count: u64) -> Tallies {
-    let mut all = none();
+    let mut all = Tallies::default();
     let mut random = next(0x2545_f491_4f6c_dd1d ^ (n as u64));
     for _ in 0..count {
         all = with_random(rt, all, n, random);

@@ -45,7 +45,8 @@ pub fn choose(terms: &Terms, rules: &[u32], book: &[u32]) -> Result<Chosen, u32>
     'sources: for (i, source) in terms.sources.iter().enumerate() {
         let function = words::source_function(*source);
         let mut best: Option<Best> = None;
-        // Kept: document 01 names the form: "inner loop over rules, left from inside".
+        // Kept: document 01 names the form: "an inner loop over rules, left from inside when a function proves unmappable". A `for` over the
+        // rules would end by itself, and the loop over the sources would be left behind it.
         let mut j = 0;
         let chosen = loop {
             if count <= j {

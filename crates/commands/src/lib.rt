@@ -66,11 +66,8 @@ fn bind_command(digits: &[u8]) -> Option<Command>
     Some(Command::Bind(hexadecimal::word_in(digits)?))
 }
 
-// How many decimal digits there are.
-const DIGITS: u32 = 10;
-
 // A release of the function whose decimal digits these are.
-#[tactic(auto, using(crate::proofs::Release::no_digit, crate::proofs::Release::no_decimal, crate::proofs::Release::too_large, crate::proofs::Release::one_read, crate::proofs::Release::all_read), unfolding(crate::specs::Commands::release_command))]
+#[tactic(auto, using(crate::proofs::Release::one_read, crate::proofs::Release::all_read), unfolding(crate::specs::Commands::release_command))]
 fn release_command(digits: &[u8]) -> Option<Command>
     ensures { result ≡ C.release_command digits.now }
 {
@@ -79,10 +76,7 @@ fn release_command(digits: &[u8]) -> Option<Command>
     }
     let mut function: u32 = 0;
     for byte in digits {
-        let digit = hexadecimal::digit_of(*byte)?;
-        if DIGITS <= digit {
-            return None;
-        }
+        let digit = char::from(*byte).to_digit(10)?;
         function = function.checked_mul(10)?.checked_add(digit)?;
     }
     Some(Command::Release(function))

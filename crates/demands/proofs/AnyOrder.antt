@@ -31,12 +31,12 @@ use Rattle.std.proofs.lemmas.List.Sums.{position_or_len_is}
 use Rattle.bench.specs.declared.Bench.{Bench}
 use Rattle.bench.specs.declared.After.{After}
 use Rattle.demands.specs.Benches.{BenchOf, BindsAll}
+use Rattle.mapper.proofs.Answering.{sources_length}
 use Rattle.demands.proofs.Parts.{source_at_lem}
 use Rattle.demands.proofs.Written.{Bindable}
 use Rattle.demands.proofs.Chosen.{one_each, chosen_rule, chosen_bindable}
 use Rattle.demands.proofs.Accepted.{source_listed}
 use Rattle.demands.proofs.Sources.{sources_rise}
-use Rattle.demands.proofs.OpenedSound.{source_count}
 use Rattle.demands.proofs.Allowed.{Allowed, Outcome, Bound, Unchanged, outcome, bound_on, allowed_gives, allowed_sound, second_first, first_second, same_bench}
 use Rattle.demands.proofs.Benches.{bound_of_job, opened_of_job, same_sources, same_targets}
 
@@ -149,7 +149,7 @@ module _ (ws : List ℕ) (job : Job) (e : WellFormedJob ws job) (bound : List �
   its_entry : (k : ℕ) → k < length bound → place_for (opened ws job) (source_of (get_or bound k 0)) ≡ k
   its_entry k h =
       ap₂ place_of (same_sources ws job e) (its_source k h)
-      ∙ place_of_lem (sources_of ws job) k (omega (arith, size, source_count ws job e)) (sources_apart k h)
+      ∙ place_of_lem (sources_of ws job) k (omega (arith, size, sources_length ws job e)) (sources_apart k h)
 
   pub is_rule : (k : ℕ) → k < length bound → rule_fault (get_or bound k 0) ≡ None
   is_rule k h =

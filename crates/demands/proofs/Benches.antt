@@ -21,9 +21,10 @@ use Rattle.bench.specs.Shape.{Shaped}
 use Rattle.bench.specs.declared.Bench.{Bench}
 use Rattle.bench.specs.declared.After.{After}
 use Rattle.demands.specs.Benches.{Reached, opening, binding, releasing, pricing, finishing, BenchOf}
+use Rattle.mapper.proofs.Answering.{sources_length}
 use Rattle.demands.proofs.Parts.{source_at_lem}
 use Rattle.demands.proofs.Written.{Bindable}
-use Rattle.demands.proofs.OpenedSound.{zeros-count, table_words_lem, source_count, target_count, opened_sound}
+use Rattle.demands.proofs.OpenedSound.{zeros-count, table_words_lem, target_count, opened_sound}
 use Rattle.demands.proofs.Keeping.{bind_keeps_sound}
 use Rattle.demands.proofs.Allowed.{Outcome, Bound, Unchanged, outcome, bound_on}
 use Rattle.demands.proofs.Releasing.{Release, Released, Kept, released_on, release, released_sound}
@@ -87,7 +88,7 @@ module _ (ws : List ℕ) (job : Job) (e : WellFormedJob ws job) where
   facts = well_formed ws job e
 
   pub same_sources : sources_on (tables_in ws job) ≡ sources_of ws job
-  same_sources = table_words_lem most_sources (sources_of ws job) job.sources (source_count ws job e)
+  same_sources = table_words_lem most_sources (sources_of ws job) job.sources (sources_length ws job e)
 
   pub same_targets : targets_on (tables_in ws job) ≡ targets_of ws job
   same_targets = table_words_lem most_targets (targets_of ws job) job.targets (target_count ws job e)
@@ -96,7 +97,7 @@ module _ (ws : List ℕ) (job : Job) (e : WellFormedJob ws job) where
   shaped bound n =
       record {
         tables_shaped = record {
-          sources_entries = table_length most_sources (sources_of ws job) (omega (arith, source_count ws job e, facts.sources_most));
+          sources_entries = table_length most_sources (sources_of ws job) (omega (arith, sources_length ws job e, facts.sources_most));
           targets_entries = table_length most_targets (targets_of ws job) (omega (arith, target_count ws job e, facts.targets_most));
           inverter_fits = facts.inverter_most;
           gate_fits = facts.gate_most;

@@ -37,6 +37,7 @@ use Rattle.rightness.specs.Rightness.{unless_wrong}
 use Rattle.completeness.specs.Complete.{binds, first_unbound}
 use Rattle.checker.specs.declared.CheckError.TheVariants.{JobRefused, MappingRefused, Refused, Wrong}
 use Rattle.demands.specs.Mapped.{source_at, binding_at, claim_at, Bound, Complete, RightAt, AllRight, RightlyMapped, NamesUnbound, NamesWrong}
+use Rattle.mapper.proofs.Answering.{sources_length}
 use Rattle.demands.proofs.Parts.{part_length, part_at, rises_to, source_at_lem}
 use Rattle.demands.proofs.Firsts.{First, Passes, first_failing, first_least, bound_at, at_bound, bound_in, all_bound_none, unbound_first, none_all_bound, right_under, all_right_next, wrong_first, accepted_all_right}
 use Rattle.words.specs.declared.Fault.TheVariants.{Incomplete}
@@ -78,9 +79,6 @@ module _ (jw mw : List ℕ) (j : Job) (m : Mapping) (ej : WellFormedJob jw j) (e
   abbrev bindings : List ℕ
   bindings = bindings_of mw m
 
-  sources_length : length sources ≡ j.sources
-  sources_length = part_length jw sources_start j.sources (omega (arith, (jobs.well_formed jw j ej).size))
-
   bindings_length : length bindings ≡ m.bindings
   bindings_length = part_length mw bindings_start m.bindings (omega (arith, (mappings.well_formed mw m em).size))
 
@@ -102,12 +100,12 @@ module _ (jw mw : List ℕ) (j : Job) (m : Mapping) (ej : WellFormedJob jw j) (e
   complete_none : Complete jw mw j m → first_unbound sources bindings ≡ None
   complete_none h =
       all_bound_none bindings sources
-      (λ i l. let g : i < j.sources = omega (arith, sources_length) in ap (binds bindings) (source_at_lem jw j i g) ∙ of_bound (source_at jw i) (h i g))
+      (λ i l. let g : i < j.sources = omega (arith, sources_length jw j ej) in ap (binds bindings) (source_at_lem jw j i g) ∙ of_bound (source_at jw i) (h i g))
 
   none_complete : first_unbound sources bindings ≡ None → Complete jw mw j m
   none_complete e i h =
       bound_of (source_at jw i)
-      (ap (binds bindings) (sym (source_at_lem jw j i h)) ∙ none_all_bound bindings sources e i (omega (arith, sources_length)))
+      (ap (binds bindings) (sym (source_at_lem jw j i h)) ∙ none_all_bound bindings sources e i (omega (arith, sources_length jw j ej)))
 
   unbound_fails : (i : ℕ) → i < j.sources → (Bound mw m (source_at jw i) → ⊥) → bound_in bindings (get_or sources i 0) ≡ false
   unbound_fails i h u =
@@ -206,7 +204,7 @@ module _ (jw mw : List ℕ) (j : Job) (m : Mapping) (ej : WellFormedJob jw j) (e
 
   names-unbound : fit ≡ Ok tt → (at : ℕ) → First (bound_in bindings) sources at → (r : Result ⊤ CheckError) → Checks jw mw r → NamesUnbound jw mw j m r
   names-unbound e at first r h =
-      let within : at < j.sources = omega (arith, first.within, sources_length) in
+      let within : at < j.sources = omega (arith, first.within, sources_length jw j ej) in
       record {
         at = at;
         within = within;
@@ -223,7 +221,7 @@ module _ (jw mw : List ℕ) (j : Job) (m : Mapping) (ej : WellFormedJob jw j) (e
   pub lowest_unbound : fit ≡ Ok tt → (i : ℕ) → i < j.sources → (Bound mw m (source_at jw i) → ⊥)
       → (r : Result ⊤ CheckError) → Checks jw mw r → NamesUnbound jw mw j m r
   lowest_unbound e i h u r c =
-      let found = first_failing (bound_in bindings) sources i (omega (arith, sources_length)) (unbound_fails i h u) in
+      let found = first_failing (bound_in bindings) sources i (omega (arith, sources_length jw j ej)) (unbound_fails i h u) in
       names-unbound e found.0 found.1 r c
 
   names-wrong : fit ≡ Ok tt → Complete jw mw j m → (at : ℕ) → First (right_under t) bindings at

@@ -44,7 +44,7 @@ pub adds : (b : Bench) → Shaped b → (w : ℕ) → Allowed b w → Adds b w (
 adds b h w a =
     let few = sound_sources b.tables b.bound b.glue a.unrefused.sound in
     let there = tables_entry b w a.unrefused.there in
-    let size = sources_taken b h few in
+    let size = sources_taken b h a.unrefused.sound in
     record {
       entry = place_for b (source_of w);
       within = omega arith;
@@ -126,7 +126,7 @@ pub lowest_unbound : (b : Bench) → Shaped b → sound_bench b ≡ true → (fi
 lowest_unbound b h s first some =
     let j = of_own_job b h s in
     let f = first_empty_lem (sources_on b.tables) b.bound first some in
-    let size = sources_taken b h (sound_sources b.tables b.bound b.glue s) in
+    let size = sources_taken b h s in
     record {
       index = f.at;
       within = omega (arith, f.within);

@@ -111,7 +111,7 @@ module _ (b : Bench) (h : Shaped b) (s : sound_bench b ≡ true) (u : unbound_on
       let e : get_or b.bound m 0 ≡ get_or (bindings_on b) m 0
       = sym (get_or-take b.tables.nsources b.bound m 0 l) ∙ ap (λ (x : List ℕ). get_or x m 0) (all_bound b h s u) in
       let there = entry_at n ss ts ss b.bound m (sound_holds b.tables b.bound b.glue s).entries
-      (omega (arith, sources_taken b h few)) (omega (arith, h.bound_entries, few)) in
+      (omega (arith, sources_taken b h s)) (omega (arith, h.bound_entries, few)) in
       recipe_at n ss ts (get_or ss m 0) (get_or (bindings_on b) m 0)
       (subst (λ (x : ℕ). entry_sound n ss ts (get_or ss m 0) x ≡ true) e there)
       (bound_some b.bound m (omega (arith, binding_number)))

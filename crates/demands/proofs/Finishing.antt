@@ -29,7 +29,8 @@ use Rattle.bench.specs.declared.CallError.TheVariants.{Refused}
 use Rattle.bench.proofs.Finishing.{all_bound}
 use Rattle.demands.specs.Mapped.{RightlyMapped}
 use Rattle.demands.specs.Benches.{BenchOf}
-use Rattle.demands.proofs.OpenedSound.{table_words_lem, source_count}
+use Rattle.mapper.proofs.Answering.{sources_length}
+use Rattle.demands.proofs.OpenedSound.{table_words_lem}
 use Rattle.demands.proofs.Allowed.{rule_some}
 use Rattle.demands.proofs.Finished.{none_empty, binding_number}
 use Rattle.demands.proofs.Accepted.{rightly_mapped}
@@ -63,7 +64,7 @@ module _ (ws : List ℕ) (job : Job) (e : WellFormedJob ws job) (bound : List �
   all_held : unbound_on chosen ≡ None
   all_held =
       let n : length (sources_on chosen.tables) ≡ length bound
-      = ap length (same_sources ws job e) ∙ source_count ws job e ∙ sym (size ws job e bound eb) in
+      = ap length (same_sources ws job e) ∙ sources_length ws job e ∙ sym (size ws job e bound eb) in
       none_empty (sources_on chosen.tables) (table_of most_sources bound)
       (omega (arith, n, size ws job e bound eb, (well_formed ws job e).sources_most, o.entries))
       (λ k h z.

@@ -21,6 +21,7 @@ use Rattle.wellformed.proofs.Parts.{Entry}
 use Rattle.wellformed.proofs.JobWords.{JobFacts, well_formed}
 use Rattle.wellformed.proofs.JobAccepting.{laid, laid_well_formed, accepts}
 use Rattle.table.specs.Parts.{sources_of, targets_of}
+use Rattle.mapper.proofs.Answering.{sources_length}
 use Rattle.soundness.specs.Sound.{sources_on, targets_on, table_words, holds, tables_sound, empty, filled, entry_sound, bound_sound, glue_on, is_sound}
 use Rattle.soundness.specs.declared.Tables.{Tables}
 use Rattle.soundness.proofs.Soundness.{sound_when}
@@ -68,16 +69,13 @@ module _ (ws : List ℕ) (job : Job) (e : WellFormedJob ws job) where
   well : JobFacts ws job
   well = well_formed ws job e
 
-  pub source_count : length (sources_of ws job) ≡ job.sources
-  source_count = length-take-le job.sources (drop sources_start ws) (omega (arith, length-drop sources_start ws, well.size))
-
   pub target_count : length (targets_of ws job) ≡ job.targets
   target_count =
       length-take-le job.targets (drop (targets_start job) ws) (omega (arith, length-drop (targets_start job) ws, well.size))
 
   source_word : (m : ℕ) → m < length (sources_of ws job) → get_or ws (sources_start + m) 0 ≡ get_or (sources_of ws job) m 0
   source_word m h =
-      sym (get_or-take job.sources (drop sources_start ws) m 0 (omega (arith, source_count)) ∙ get_or-drop sources_start ws m 0)
+      sym (get_or-take job.sources (drop sources_start ws) m 0 (omega (arith, sources_length ws job e)) ∙ get_or-drop sources_start ws m 0)
 
   target_word : (m : ℕ) → m < length (targets_of ws job) → get_or ws (targets_start job + m) 0 ≡ get_or (targets_of ws job) m 0
   target_word m h =
@@ -86,7 +84,7 @@ module _ (ws : List ℕ) (job : Job) (e : WellFormedJob ws job) where
   words_of : table_words (tables_in ws job) ≡ laid job.width job.prices (sources_of ws job) (targets_of ws job)
   words_of =
       ap₂ (λ (x y : List ℕ). laid job.width job.prices x y)
-      (table_words_lem most_sources (sources_of ws job) job.sources source_count)
+      (table_words_lem most_sources (sources_of ws job) job.sources (sources_length ws job e))
       (table_words_lem most_targets (targets_of ws job) job.targets target_count)
 
   -- the words of its tables are those of the job, so they are accepted
@@ -102,12 +100,12 @@ module _ (ws : List ℕ) (job : Job) (e : WellFormedJob ws job) where
       rw words_of
       (laid_well_formed job.width job.prices (sources_of ws job) (targets_of ws job)
       well.width_least well.width_most well.inverter_most well.gate_most well.multiplexer_most
-      (omega (arith, source_count, well.sources_least)) (omega (arith, source_count, well.sources_most))
+      (omega (arith, sources_length ws job e, well.sources_least)) (omega (arith, sources_length ws job e, well.sources_most))
       (omega (arith, target_count, well.targets_most))
-      (λ m h. subst (Entry SOURCE) (source_word m h) (well.source_words m (omega (arith, source_count))))
+      (λ m h. subst (Entry SOURCE) (source_word m h) (well.source_words m (omega (arith, sources_length ws job e))))
       (λ m h. omega (
         arith,
-        well.sources_rise m (omega (arith, source_count)),
+        well.sources_rise m (omega (arith, sources_length ws job e)),
         ap content_of (source_word m (omega arith)),
         ap content_of (source_word (m + 1) h),
       ))
@@ -130,10 +128,10 @@ module _ (ws : List ℕ) (job : Job) (e : WellFormedJob ws job) where
           few_targets = well.targets_most;
           held =
               ap (holds job.sources job.targets) (accepts (table_words t) _ opened_job)
-              ∙ and_join (eq-eqb (length (sources_of ws job)) job.sources source_count)
+              ∙ and_join (eq-eqb (length (sources_of ws job)) job.sources (sources_length ws job e))
               (eq-eqb (length (targets_of ws job)) job.targets target_count);
         };
-        past_sources = table_rest most_sources (sources_of ws job) job.sources source_count;
+        past_sources = table_rest most_sources (sources_of ws job) job.sources (sources_length ws job e);
         past_targets = table_rest most_targets (targets_of ws job) job.targets target_count;
         entries = zeros-bound job.width (sources_on t) (targets_on t) (sources_on t) most_sources;
         count = sym (zeros-count t most_sources);

@@ -44,15 +44,12 @@ something_there : (b : Bench) (f : ℕ) → has_binding b f ≡ true → get_or 
 something_there b f u = (bound_place (sources_on b.tables) f b.bound u).1
 
 module _ (b : Bench) (h : Shaped b) (s : sound_bench b ≡ true) where
-  source_number : b.tables.nsources ≡ length (sources_on b.tables)
-  source_number = sources_taken b h (sound_sources b.tables b.bound b.glue s)
-
   -- no two sources have the same function
   one_entry : (f k : ℕ) → k < b.tables.nsources → function_on b k ≡ f → place_for b f ≡ k
   one_entry f k l e =
       let j = of_own_job b h s in
       ap (place_for b) (sym e)
-      ∙ place_of_lem (sources_on b.tables) k (omega (arith, source_number))
+      ∙ place_of_lem (sources_on b.tables) k (omega (arith, sources_taken b h s))
       (λ i before. sources_apart _ j.0 j.1.0 b j.1.1 i k before l)
 
   module _ (f : ℕ) (u : has_binding b f ≡ true) where
@@ -66,7 +63,7 @@ module _ (b : Bench) (h : Shaped b) (s : sound_bench b ≡ true) where
     bound_to =
         record {
           entry = place_for b f;
-          within = omega (arith, entry_within, source_number);
+          within = omega (arith, entry_within, sources_taken b h s);
           its_source = place_source (sources_on b.tables) f entry_within;
           not_empty = something_there b f u;
         }
@@ -135,7 +132,7 @@ module _ (b : Bench) (h : Shaped b) where
     has_binding_lem : BoundTo b f → has_binding b f ≡ true
     has_binding_lem t =
         let same = one_entry b h s f t.entry t.within t.its_source in
-        is_bound_lem (sources_on b.tables) f b.bound (omega (arith, same, t.within, source_number b h s))
+        is_bound_lem (sources_on b.tables) f b.bound (omega (arith, same, t.within, sources_taken b h s))
         (λ z. t.not_empty (ap (λ (x : ℕ). get_or b.bound x 0) (sym same) ∙ z))
 
     pub releases_exactly_the_bound : (paper_of (release_of b f).answer ≡ accepted []) ↔ BoundTo b f
@@ -164,7 +161,7 @@ module _ (b : Bench) (h : Shaped b) where
       taken_back : Allowed b w → release_of (bound_on b w) (source_of w) ≡ gives b (Ok tt)
       taken_back a =
           let i = place_for b (source_of w) in
-          let few = sources_taken b h (sound_sources b.tables b.bound b.glue a.unrefused.sound) in
+          let few = sources_taken b h a.unrefused.sound in
           let held : get_or (set b.bound i w) i 0 ≡ w
           = get_or-set_same b.bound i w 0 (omega (arith, tables_entry b w a.unrefused.there, h.bound_entries, sound_sources b.tables b.bound b.glue a.unrefused.sound, few)) in
           releases (bound_on b w) (source_of w) (allowed_sound b w a)

@@ -20,7 +20,7 @@ use Rattle.reader.specs.Job.{WellFormedJob}
 use Rattle.reader.specs.Starts.{rules_start}
 use Rattle.reader.specs.declared.Job.{Job}
 use Rattle.wellformed.proofs.Parts.{RecipeWord}
-use Rattle.wellformed.proofs.Words.{is_width_lem}
+use Rattle.alu.proofs.Shown.{is_width_lem}
 use Rattle.wellformed.proofs.JobWords.{JobFacts, well_formed}
 use Rattle.table.specs.Parts.{targets_of, rules_of, terms_of}
 use Rattle.best.specs.Best.{usable, serves}

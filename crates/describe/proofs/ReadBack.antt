@@ -13,8 +13,10 @@ use Rattle.std.specs.Prelude.{Some, if◌then◌else◌}
 use Rattle.std.specs.Option.{option_and_then}
 use Rattle.text.specs.Text.{bytes, glyph, digits, hexadecimal}
 use Rattle.text.proofs.Digits.{digits_length}
-use Rattle.hexadecimal.specs.Hex.{digit_of, between, ended, with_digit, digits_left, last_word, word_in}
+use Rattle.hexadecimal.specs.Hex.{digit_of, between, ended, with_digit, digits_left, word_of, step_in, word_in}
 use Rattle.hexadecimal.specs.declared.Hex.{Hex}
+use Rattle.hexadecimal.specs.declared.Step.TheVariants.{Word}
+use Rattle.hexadecimal.proofs.Digits.{word_read}
 use Rattle.describe.specs.Describe.{meaning_text, word_line}
 
 low_digit : (d : ℕ) → d < 10 → digit_of (48 + d) ≡ Some d
@@ -73,6 +75,12 @@ line_digits : (w : ℕ) → take 8 (word_line w) ≡ digits 16 8 w
 unfolding word_line hexadecimal
 line_digits w = first_eight (digits 16 8 w) (bytes " ") (meaning_text w) (bytes "\n") (digits_length 16 8 w)
 
-pub read_back : (w : ℕ) → w < 2 ^ 32 → word_in (take 8 (word_line w)) ≡ Some w
+-- what the digits of a line come to is its word, and the text goes on between two words
+pub read_back : (w : ℕ) → w < 2 ^ 32 → step_in (take 8 (word_line w)) ≡ Some (Word w (between false))
 unfolding digits_left ended
-read_back w h = ap word_in (line_digits w ∙ sym (append-nil (digits 16 8 w))) ∙ ap (option_and_then last_word) (digits_read 8 w [] (omega arith) h h)
+read_back w h =
+    ap step_in (line_digits w ∙ sym (append-nil (digits 16 8 w)))
+    ∙ ap (option_and_then (λ (k : Hex). ended k false)) (digits_read 8 w [] (omega arith) h h)
+
+pub word_back : (w : ℕ) → w < 2 ^ 32 → word_in (take 8 (word_line w)) ≡ Some w
+word_back w h = word_read (take 8 (word_line w)) ∙ ap (option_and_then word_of) (read_back w h)

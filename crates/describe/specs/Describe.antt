@@ -2,12 +2,12 @@
 use Rattle.std.specs.Prelude.{ℕ, Option, None, Some, is_some, Bool, ◌&&◌, not, List, [], ◌++◌, eqb, leb, if◌then◌else◌}
 use Rattle.words.specs.Paper.{number_of}
 use Rattle.words.specs.declared.Fault.{Fault}
-use Rattle.words.specs.declared.Fault.TheVariants.{OutOfSequence, NotLaidOut, ReadsUndriven, OtherOutputs}
+use Rattle.words.specs.declared.Fault.TheVariants.{OutOfSequence, NotLaidOut}
 use Rattle.words.specs.Field.{field, kind_of, content_of, source_function, target_function}
 use Rattle.words.specs.Kinds.{HEADER, PRICES, SOURCE, TARGET, RULE, GLUE, is_recipe}
 use Rattle.recipe.specs.Fields.{source_of, target_of, from_scratch, vector_of, fields_of}
 use Rattle.recipe.specs.declared.Fields.{Fields}
-use Rattle.layout.specs.Layout.{reads_undriven, shows_other}
+use Rattle.layout.specs.Layout as layout
 use Rattle.sequence.specs.declared.File.TheVariants.{AsJob}
 use Rattle.grammar.specs.Reading.{fits}
 use Rattle.text.specs.Text.{bytes, name_of, digits, hexadecimal, labelled}
@@ -84,11 +84,7 @@ layout_fault w = if not (is_kind (kind_of w)) then Some OutOfSequence else if no
 
 -- of a recipe that the layout allows: 5 and 6
 unfoldable pub output_fault : ℕ → Option Fault
-output_fault w =
-    if not (is_recipe (kind_of w)) then None
-    else if reads_undriven w then Some ReadsUndriven
-    else if shows_other w then Some OtherOutputs
-    else None
+output_fault w = if not (is_recipe (kind_of w)) then None else layout.output_fault w
 
 -- a refusal behind what stands before it, or nothing
 unfoldable pub fault_text : List ℕ → Option Fault → List ℕ

@@ -5,29 +5,23 @@ ghost use Rattle.describe.specs.Describe as D;
 ghost use Rattle.describe.specs.Room as M;
 
 use text::Text;
-use words::Fault;
+use words::{Fault, Word};
 
 // The refusal of a recipe for its outputs.
 #[tactic(auto, unfolding(crate::specs::Describe::output_fault))]
-pub fn output_fault(word: u32) -> Option<Fault>
-    ensures { result ≡ D.output_fault word }
+pub fn output_fault(word: Word) -> Option<Fault>
+    ensures { result ≡ D.output_fault word.bits }
 {
-    if !words::is_recipe(word) {
+    if !word.kind.is_recipe() {
         return None;
     }
-    if layout::reads_undriven(word) {
-        return Some(Fault::ReadsUndriven);
-    }
-    if layout::shows_other(word) {
-        return Some(Fault::OtherOutputs);
-    }
-    None
+    layout::output_fault(word.bits)
 }
 
 // A refusal behind what stands before it; of none, nothing.
 #[tactic(auto, unfolding(crate::specs::Describe::fault_text, text::specs::Text::labelled))]
-pub fn put_fault(before: &[u8], fault: Option<Fault>, text: &mut Text)
-    requires { length text.old + length before.now + M.most_fault ≤ P.room }
+pub fn put_fault<const ROOM: usize>(before: &[u8], fault: Option<Fault>, text: &mut Text<ROOM>)
+    requires { length text.old + length before.now + M.most_fault ≤ ROOM }
     ensures short { length text.new ≤ length text.old + length before.now + M.most_fault }
     ensures text { text.new ≡ text.old ++ D.fault_text before.now fault }
 {

@@ -9,8 +9,8 @@ use text::Text;
 use words::{Word, WordKind};
 
 #[tactic(auto, using(crate::proofs::Described::fields), unfolding(crate::specs::Describe::header_text))]
-fn put_header(word: u32, text: &mut Text)
-    requires { length text.old + M.most_kind ≤ P.room }
+fn put_header<const ROOM: usize>(word: u32, text: &mut Text<ROOM>)
+    requires { length text.old + M.most_kind ≤ ROOM }
     ensures short { length text.new ≤ length text.old + M.most_kind }
     ensures text { text.new ≡ text.old ++ D.header_text word }
 {
@@ -21,8 +21,8 @@ fn put_header(word: u32, text: &mut Text)
 }
 
 #[tactic(auto, using(crate::proofs::Described::fields), unfolding(crate::specs::Describe::prices_text))]
-fn put_prices(word: u32, text: &mut Text)
-    requires { length text.old + M.most_kind ≤ P.room }
+fn put_prices<const ROOM: usize>(word: u32, text: &mut Text<ROOM>)
+    requires { length text.old + M.most_kind ≤ ROOM }
     ensures short { length text.new ≤ length text.old + M.most_kind }
     ensures text { text.new ≡ text.old ++ D.prices_text word }
 {
@@ -32,8 +32,8 @@ fn put_prices(word: u32, text: &mut Text)
 }
 
 // A function's name behind what it is.
-fn put_function(label: &[u8], function: u32, text: &mut Text)
-    requires { length text.old + length label.now + 5 ≤ P.room }
+fn put_function<const ROOM: usize>(label: &[u8], function: u32, text: &mut Text<ROOM>)
+    requires { length text.old + length label.now + 5 ≤ ROOM }
     ensures short { length text.new ≤ length text.old + length label.now + 5 }
     ensures text { text.new ≡ text.old ++ label.now ++ P.name_of function }
 {
@@ -43,8 +43,8 @@ fn put_function(label: &[u8], function: u32, text: &mut Text)
 
 // What a word is, by its kind.
 #[tactic(auto, unfolding(crate::specs::Describe::word_text))]
-pub fn put_kind(word: Word, text: &mut Text)
-    requires { length text.old + M.most_kind ≤ P.room }
+pub fn put_kind<const ROOM: usize>(word: Word, text: &mut Text<ROOM>)
+    requires { length text.old + M.most_kind ≤ ROOM }
     ensures short { length text.new ≤ length text.old + M.most_kind }
     ensures text { text.new ≡ text.old ++ D.word_text word.bits }
 {

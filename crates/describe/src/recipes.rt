@@ -1,6 +1,5 @@
 // A recipe: what the target's inputs are wired to, and what its outputs give.
 ghost use Rattle.std.specs.Prelude.{◌≡◌, ◌+◌, ◌≤◌, ◌++◌, length};
-ghost use Rattle.text.specs.Text.{room};
 ghost use Rattle.spelling.specs.Spelling.{spelling_of};
 ghost use Rattle.spelling.specs.Room.{most_spelling};
 ghost use Rattle.describe.specs.Describe as D;
@@ -11,8 +10,8 @@ use spelling::Codes;
 use text::Text;
 
 // A code's spelling behind what it is of.
-fn put_spelt(label: &[u8], codes: Codes, code: u32, text: &mut Text)
-    requires { length text.old + length label.now + most_spelling codes ≤ room }
+fn put_spelt<const ROOM: usize>(label: &[u8], codes: Codes, code: u32, text: &mut Text<ROOM>)
+    requires { length text.old + length label.now + most_spelling codes ≤ ROOM }
     ensures short { length text.new ≤ length text.old + length label.now + most_spelling codes }
     ensures text { text.new ≡ text.old ++ label.now ++ spelling_of codes code }
 {
@@ -22,8 +21,8 @@ fn put_spelt(label: &[u8], codes: Codes, code: u32, text: &mut Text)
 
 // An output behind its name; code 0 is none.
 #[tactic(auto, unfolding(crate::specs::Describe::shown_as))]
-fn put_shown(label: &[u8], codes: Codes, code: u32, text: &mut Text)
-    requires { length text.old + length label.now + most_spelling codes ≤ room }
+fn put_shown<const ROOM: usize>(label: &[u8], codes: Codes, code: u32, text: &mut Text<ROOM>)
+    requires { length text.old + length label.now + most_spelling codes ≤ ROOM }
     ensures short { length text.new ≤ length text.old + length label.now + most_spelling codes }
     ensures text { text.new ≡ text.old ++ D.shown_as label.now codes code }
 {
@@ -34,8 +33,8 @@ fn put_shown(label: &[u8], codes: Codes, code: u32, text: &mut Text)
 
 // What the target's inputs are wired to.
 #[tactic(auto, unfolding(crate::specs::Describe::inputs_text))]
-fn put_inputs(fields: Fields, text: &mut Text)
-    requires { length text.old + M.most_inputs ≤ room }
+fn put_inputs<const ROOM: usize>(fields: Fields, text: &mut Text<ROOM>)
+    requires { length text.old + M.most_inputs ≤ ROOM }
     ensures short { length text.new ≤ length text.old + M.most_inputs }
     ensures text { text.new ≡ text.old ++ D.inputs_text fields }
 {
@@ -46,8 +45,8 @@ fn put_inputs(fields: Fields, text: &mut Text)
 
 // What its outputs give.
 #[tactic(auto, unfolding(crate::specs::Describe::outputs_text))]
-fn put_outputs(fields: Fields, text: &mut Text)
-    requires { length text.old + M.most_outputs ≤ room }
+fn put_outputs<const ROOM: usize>(fields: Fields, text: &mut Text<ROOM>)
+    requires { length text.old + M.most_outputs ≤ ROOM }
     ensures short { length text.new ≤ length text.old + M.most_outputs }
     ensures text { text.new ≡ text.old ++ D.outputs_text fields }
 {
@@ -59,8 +58,8 @@ fn put_outputs(fields: Fields, text: &mut Text)
 
 // From scratch: the vector's four bits.
 #[tactic(auto, unfolding(crate::specs::Describe::scratch_text))]
-fn put_scratch(word: u32, text: &mut Text)
-    requires { length text.old + M.most_from ≤ room }
+fn put_scratch<const ROOM: usize>(word: u32, text: &mut Text<ROOM>)
+    requires { length text.old + M.most_from ≤ ROOM }
     ensures short { length text.new ≤ length text.old + M.most_from }
     ensures text { text.new ≡ text.old ++ D.scratch_text word }
 {
@@ -70,8 +69,8 @@ fn put_scratch(word: u32, text: &mut Text)
 
 // From a target: its inputs and its outputs.
 #[tactic(auto, unfolding(crate::specs::Describe::wired_text))]
-fn put_wired(word: u32, text: &mut Text)
-    requires { length text.old + M.most_from ≤ room }
+fn put_wired<const ROOM: usize>(word: u32, text: &mut Text<ROOM>)
+    requires { length text.old + M.most_from ≤ ROOM }
     ensures short { length text.new ≤ length text.old + M.most_from }
     ensures text { text.new ≡ text.old ++ D.wired_text word }
 {
@@ -84,8 +83,8 @@ fn put_wired(word: u32, text: &mut Text)
 
 // A recipe behind what it is.
 #[tactic(auto, unfolding(crate::specs::Describe::recipe_text))]
-pub fn put_recipe(label: &[u8], word: u32, text: &mut Text)
-    requires { length text.old + length label.now + M.most_recipe ≤ room }
+pub fn put_recipe<const ROOM: usize>(label: &[u8], word: u32, text: &mut Text<ROOM>)
+    requires { length text.old + length label.now + M.most_recipe ≤ ROOM }
     ensures short { length text.new ≤ length text.old + length label.now + M.most_recipe }
     ensures text { text.new ≡ text.old ++ label.now ++ D.recipe_text word }
 {

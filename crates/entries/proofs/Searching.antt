@@ -2,16 +2,16 @@
 use mathlib.Core.Path.{◌≡◌, refl, sym, ap, ◌∙◌}
 use mathlib.Core.Bool.{Bool, true, false, ◌||◌, not, false≢true}
 use mathlib.Core.List.{List, [], ◌∷◌}
+use mathlib.Core.Logic.{◌⊎◌, inl, inr}
 use Prim.Native.Nat.{ℕ, suc, ◌+◌, ◌≤◌, ◌<◌}
 use native.Mathlib.Decide.{dec_lt}
 use native.Mathlib.Omega.{arith}
 use lib.Dec.{eqb}
-use lib.ListN.{length, drop, get_or, drop_of_length-le, get_or-eq_default}
+use lib.ListN.{length, get_or, get_or-eq_default}
 use borrow.Author.Tests.{eq-eqb, ne_eqb, eqb-true, eqb-false, not-true, not-false, lt-ltb, le-ltb}
 use Rattle.std.specs.Prelude.{if◌then◌else◌, Option, Some, None}
 use Rattle.std.specs.List.{position_or_len}
 use Rattle.std.proofs.lemmas.Grind.{common_steps}
-use Rattle.words.proofs.Lists.{drop-next}
 use Rattle.words.specs.Field.{source_function}
 use Rattle.table.specs.Table.{lists_source}
 use Rattle.entries.specs.Entries.{entry_of, holds_one, is_bound, first_empty}
@@ -91,19 +91,18 @@ module _ (ss : List ℕ) (f : ℕ) where
 
 -- ---- the first empty entry
 
-module _ (ss bs : List ℕ) (i : ℕ) (e : first_empty (drop i ss) (drop i bs) ≡ first_empty ss bs) where
-  pub none_unbound : length ss ≤ i → None ≡ first_empty ss bs
+pub none_left : (ss bs : List ℕ) → (length ss ≡ 0) ⊎ (length bs ≡ 0) → first_empty ss bs ≡ None
+unfolding first_empty
+none_left [] bs h = refl
+none_left (s ∷ ss) [] h = refl
+none_left (s ∷ ss) (w ∷ bs) (inl h) = absurd (omega arith)
+none_left (s ∷ ss) (w ∷ bs) (inr h) = absurd (omega arith)
+
+module _ (ss bs : List ℕ) (s w : ℕ) (ss' bs' : List ℕ) (es : ss ≡ s ∷ ss') (eb : bs ≡ w ∷ bs') where
+  pub unbound_found : (f : ℕ) → w ≡ 0 → f ≡ source_function s → first_empty ss bs ≡ Some f
   unfolding first_empty
-  none_unbound h = rw (drop_of_length-le ss h) at e
+  unbound_found f h ef = rw (es, eb, eq-eqb w 0 h) (ap Some (sym ef))
 
-  module _ (h : i < length ss) (g : length ss ≤ length bs) where
-    next_unbound : (if eqb (get_or bs i 0) 0 then Some (source_function (get_or ss i 0)) else first_empty (drop (i + 1) ss) (drop (i + 1) bs))
-        ≡ first_empty ss bs
-    unfolding first_empty
-    next_unbound = rw (drop-next ss i h, drop-next bs i (omega arith)) at e
-
-    pub unbound_found : (p : ℕ) → get_or bs i 0 ≡ 0 → p ≡ source_function (get_or ss i 0) → Some p ≡ first_empty ss bs
-    unbound_found p u ep = ap Some ep ∙ (rw (eq-eqb (get_or bs i 0) 0 u) at next_unbound)
-
-    pub unbound_passed : (get_or bs i 0 ≡ 0 → ⊥) → first_empty (drop (i + 1) ss) (drop (i + 1) bs) ≡ first_empty ss bs
-    unbound_passed u = rw (ne_eqb (get_or bs i 0) 0 u) at next_unbound
+  pub unbound_passed : (w ≡ 0 → ⊥) → first_empty ss bs ≡ first_empty ss' bs'
+  unfolding first_empty
+  unbound_passed h = rw (es, eb, ne_eqb w 0 h) refl

@@ -10,8 +10,7 @@ ghost use Rattle.claims.specs.Claim as C;
 ghost use Rattle.soundness.specs.Sound as S;
 ghost use Rattle.entries.specs.Entries as E;
 
-use sequence::MOST_SOURCES;
-use soundness::{NOTHING, SoundTables};
+use soundness::{BoundTables, NOTHING, SoundTables};
 use verdict::Verdict;
 
 // Whether a rule's source is in the job, and its target too, if it has one.
@@ -29,12 +28,12 @@ pub fn entry_for(tables: SoundTables, function: u32) -> Option<usize>
 }
 
 // Whether something is bound to a function.
-#[tactic(auto, using(soundness::proofs::Shapes::sound_shaped, crate::proofs::Tabled::entry_few, crate::proofs::Searching::bound_some, crate::proofs::Searching::bound_none))]
-pub fn is_bound(tables: SoundTables, bound: [u32; MOST_SOURCES], function: u32) -> bool
-    ensures { result ≡ E.is_bound (S.sources_on tables.tables) bound function }
+#[tactic(auto, using(soundness::proofs::Shapes::held_shaped, crate::proofs::Tabled::entry_few, crate::proofs::Searching::bound_some, crate::proofs::Searching::bound_none))]
+pub fn is_bound(held: BoundTables, function: u32) -> bool
+    ensures { result ≡ E.is_bound (S.sources_on held.tables.tables) held.bound function }
 {
-    match entry_for(tables, function) {
-        Some(entry) => bound[entry] != NOTHING,
+    match entry_for(held.tables, function) {
+        Some(entry) => held.bound[entry] != NOTHING,
         None => false,
     }
 }
@@ -47,8 +46,8 @@ pub fn verdict_on(tables: SoundTables, word: u32) -> Verdict
 }
 
 // The function of the first source with nothing bound.
-pub fn unbound_on(tables: SoundTables, bound: [u32; MOST_SOURCES]) -> Option<u32>
-    ensures { result ≡ E.first_empty (S.sources_on tables.tables) bound }
+pub fn unbound_on(held: BoundTables) -> Option<u32>
+    ensures { result ≡ E.first_empty (S.sources_on held.tables.tables) held.bound }
 {
-    lookup::first_empty(tables.terms().sources, &bound)
+    lookup::first_empty(held.tables.terms().sources, &held.bound)
 }

@@ -1,3 +1,4 @@
+pub mod Made
 pub mod States
 pub mod Places
 pub mod Sets

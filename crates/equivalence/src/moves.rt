@@ -2,13 +2,14 @@
 ghost use Rattle.std.specs.Prelude.{◌≡◌, ◌<◌};
 ghost use Rattle.equivalence.specs.Sets as S;
 
-use automaton::{Cell, Ripple, State};
+use automaton::{Both, Cell, Ripple, State};
 use binding::{Recipe, Side};
 use output::Outputs;
 
 // For each state and pair of bits, at 4 * state + pair: the number of the state after it, or 64 where O0 differs; and 64 where a port
 // differs if the place is the top one, else 0.
-// Kept: the 64 in place of an Option is no less plain: one test against a set serves both tables, and an entry is one byte.
+// Kept: the 64 in place of an `Option`, and two arrays in place of one of pairs. In a round one comparison serves either table, and an entry
+// is one byte; the walk makes an `Option` of it once a place.
 #[derive(Clone, Copy)]
 pub struct Tables {
     pub moves: [u8; 256],
@@ -32,43 +33,28 @@ pub fn index_of(a: State) -> u8
 fn cells(s: Side) -> [Cell; 16]
     ensures { S.Cells s result }
 {
-    let mut found = [Cell {
-        ripple: Ripple {
-            lo: false,
-            hi: false,
-        },
-        bit: false,
-        carry: false,
-        overflow: false,
-        order: false,
-    }; 16];
-    for c in 0..16 {
+    std::array::from_fn(|c| {
         let a = Ripple {
             lo: c / 4 % 2 == 1,
             hi: c / 8 % 2 == 1,
         };
-        found[c] = automaton::cell_of(s, a, c / 2 % 2 == 1, c % 2 == 1);
-    }
-    found
+        automaton::cell_of(s, a, c / 2 % 2 == 1, c % 2 == 1)
+    })
 }
 
-fn move_of(outputs: Outputs, p: Cell, q: Cell, any: bool, all: bool) -> u8
-    ensures { result ≡ S.move_by outputs p q any all }
+fn move_of(outputs: Outputs, both: &Both) -> u8
+    ensures { result ≡ S.move_by outputs both.now.source both.now.target both.now.any both.now.all }
 {
-    if !automaton::alike(outputs, p, q) {
+    if !both.alike(outputs) {
         return 64;
     }
-    index_of(automaton::next(p, q, any, all))
+    index_of(both.next())
 }
 
-fn top_of(outputs: Outputs, p: Cell, q: Cell, any: bool, all: bool) -> u8
-    ensures { result ≡ S.top_by outputs p q any all }
+fn top_of(outputs: Outputs, both: &Both) -> u8
+    ensures { result ≡ S.top_by outputs both.now.source both.now.target both.now.any both.now.all }
 {
-    if automaton::last(outputs, p, q, any, all) {
-        0
-    } else {
-        64
-    }
+    if both.last(outputs) { 0 } else { 64 }
 }
 
 pub fn tabulate(s: Side, t: Recipe) -> Tables
@@ -78,15 +64,19 @@ pub fn tabulate(s: Side, t: Recipe) -> Tables
     let outputs = t.outputs;
     let source = cells(s);
     let target = cells(side);
+    // Kept: one loop for two tables, as both read what the sides do at a place. By two `from_fn`, which would put that together twice, the
+    // entries of the second table were not proved.
     let mut moves = [0u8; 256];
     let mut tops = [0u8; 256];
     for m in 0..256 {
-        let p = source[m % 16];
-        let q = target[m / 16 % 4 * 4 + m % 4];
-        let any = m / 64 % 2 == 1;
-        let all = m / 128 % 2 == 1;
-        moves[m] = move_of(outputs, p, q, any, all);
-        tops[m] = top_of(outputs, p, q, any, all);
+        let both = Both {
+            source: source[m % 16],
+            target: target[m / 16 % 4 * 4 + m % 4],
+            any: m / 64 % 2 == 1,
+            all: m / 128 % 2 == 1,
+        };
+        moves[m] = move_of(outputs, &both);
+        tops[m] = top_of(outputs, &both);
     }
     Tables { moves, tops }
 }

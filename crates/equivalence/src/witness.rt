@@ -5,6 +5,7 @@ ghost use Rattle.equivalence.specs.Sets as S;
 use crate::moves::Tables;
 use crate::rounds::{self, Rounds};
 
+// Kept: two words put together bit by bit, before a width is at hand; `bits::Operands` carries one.
 #[derive(Clone, Copy)]
 pub struct Operands {
     pub left: u64,
@@ -18,29 +19,22 @@ pub struct Step {
     pub leads: Option<usize>,
 }
 
-// Of the four pairs of bits the first that fails.
+// Of the four pairs of bits the first that fails: where none of three does, the fourth.
 fn failing_pair(table: &[u8; 256], set: u64, i: usize) -> usize
     requires { (i < 64) × (S.some_fails table.now set i ≡ true) }
     ensures { (result < 4) × (S.fails set (get_or table.now (4 * i + result) 0) ≡ true) }
 {
     let at = 4 * i;
-    if rounds::fails(table, at, set) {
-        return 0;
-    }
-    if rounds::fails(table, at + 1, set) {
-        return 1;
-    }
-    if rounds::fails(table, at + 2, set) {
-        return 2;
-    }
-    3
+    (0..3)
+        .find(|pair| rounds::fails(table, at + *pair, set))
+        .unwrap_or(3)
 }
 
 // Where the set with j + 1 places to go is kept.
 fn kept_at(last: usize, j: usize) -> usize
     ensures { result ≡ S.kept_at last j }
 {
-    if j < last { j } else { last }
+    j.min(last)
 }
 
 // The bits of a pair, with operands above them.

@@ -1,9 +1,7 @@
 // The evaluator and the reference side by side.
-use bits::Ports;
 use reference::evaluator::{Operands, Shown, evaluate, in_range};
 use testing::say;
 use testing::tally::Tally;
-use words::Refusal;
 
 // What an evaluator is given, in document 01's order.
 #[derive(Clone, Copy)]
@@ -16,21 +14,11 @@ pub struct Given {
 // The four ports; or the number of the refusal and its place.
 pub type Told = Result<Shown, (u32, usize)>;
 
-fn of_evaluation(answer: Result<Ports, Refusal>) -> Told {
-    match answer {
-        Ok(ports) => Ok(Shown {
-            o0: ports.o0,
-            ocout: ports.ocout,
-            ovf: ports.ovf,
-            o1: ports.o1,
-        }),
-        Err(refusal) => Err((u32::from(refusal.fault), refusal.place)),
-    }
-}
-
 fn of_alu(g: Given) -> Told {
     let at = g.operands;
-    of_evaluation(alu::evaluate(g.function, g.width, at.left, at.right, at.carry))
+    alu::evaluate(g.function, g.width, at.left, at.right, at.carry)
+        .map(told::shown_of)
+        .map_err(|refusal| (u32::from(refusal.fault), refusal.place))
 }
 
 pub fn of_reference(g: Given) -> Told {
@@ -44,24 +32,19 @@ pub fn agree(given: Given, out_of_range: Option<usize>) -> bool {
     (told == of_reference(given)) & (told.err() == out_of_range.map(|place| (3, place)))
 }
 
-// Of no refusal 0 and 5.
-fn numbers_of(told: Told) -> [u64; 6] {
-    match told {
-        Ok(shown) => [
-            0,
-            5,
-            shown.o0,
-            shown.ocout as u64,
-            shown.ovf as u64,
-            shown.o1 as u64,
-        ],
-        Err((number, place)) => [number as u64, place as u64, 0, 0, 0, 0],
-    }
-}
-
+// No refusal is written as 0 at 5, and of a refusal all ports as 0.
 fn say_told(rt: &HostRuntime, told: Told) {
-    let [number, place, o0, ocout, ovf, o1] = numbers_of(told);
-    let _ = print!(rt; "{number} at {place} O0 {o0} OCOUT {ocout} OVF {ovf} O1 {o1}");
+    match told {
+        Ok(shown) => {
+            let _ = print!(rt;
+                "0 at 5 O0 {} OCOUT {} OVF {} O1 {}",
+                shown.o0, shown.ocout as u8, shown.ovf as u8, shown.o1 as u8
+            );
+        }
+        Err((number, place)) => {
+            let _ = print!(rt; "{number} at {place} O0 0 OCOUT 0 OVF 0 O1 0");
+        }
+    }
 }
 
 fn say_difference(rt: &HostRuntime, given: Given) {
@@ -78,8 +61,5 @@ fn say_difference(rt: &HostRuntime, given: Given) {
 
 // One comparison more. The first difference of a tally is written out.
 pub fn count(rt: &HostRuntime, tally: &mut Tally, given: Given, same: bool) {
-    if !same & (tally.differ == 0) {
-        say_difference(rt, given);
-    }
-    tally.count(same);
+    tally.count_or(same, || say_difference(rt, given));
 }

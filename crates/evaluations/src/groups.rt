@@ -7,7 +7,7 @@ use testing::words::VECTORS;
 
 // Each function at a width, of zeros: refused at a place, or shown.
 pub fn at_width(rt: &HostRuntime, width: u32, out_of_range: Option<usize>) -> Tally {
-    let mut tally = Tally::none();
+    let mut tally = Tally::default();
     for function in 1..28 {
         let given = Given {
             function,
@@ -25,7 +25,7 @@ pub fn at_width(rt: &HostRuntime, width: u32, out_of_range: Option<usize>) -> Ta
 
 // At 0011 and 0101 each pair of bits stands at the place of its minterm, so that a logic function shows its vector.
 pub fn vectors(rt: &HostRuntime) -> Tally {
-    let mut tally = Tally::none();
+    let mut tally = Tally::default();
     for (function, vector) in (6..22).zip(&VECTORS) {
         let given = Given {
             function,
@@ -45,7 +45,7 @@ pub fn vectors(rt: &HostRuntime) -> Tally {
 // The inputs from one on to before another: 27 functions turning fastest, then 64 widths, then the reference's operands, of which 98
 // are corners and the rest random.
 pub fn turns(rt: &HostRuntime, from: u32, to: u32) -> Tally {
-    let mut tally = Tally::none();
+    let mut tally = Tally::default();
     let mut x = 0x2545_f491_4f6c_dd1d;
     for i in from..to {
         let width = i / 27 % 64 + 1;

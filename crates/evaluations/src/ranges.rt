@@ -12,28 +12,26 @@ const WIDTHS: [(u32, u32); 5] = [(1, 1), (63, 63), (0, 8), (65, 8), (4294967295,
 
 const CARRIES: [u32; 5] = [0, 1, 2, 3, 4294967295];
 
-// An operand: of the five values of each, two have n bits and three have more.
-fn operand(n: u32, k: u32) -> u64 {
-    match k {
-        0 => 0,
-        1 => ones(n),
-        2 => 1u64 << (n % 64),
-        3 => (1u64 << (n % 64)) | 1,
-        _ => 0xffff_ffff_ffff_ffff,
-    }
+// The values of an operand: two have n bits and three have more.
+fn operands(n: u32) -> [u64; 5] {
+    let above = 1u64 << (n % 64);
+    [0, ones(n), above, above | 1, 0xffff_ffff_ffff_ffff]
 }
 
 // The i-th choice of five.
 fn choice(i: u32) -> Given {
     let function = i % 5;
+    let left = i / 25 % 5;
+    let right = i / 125 % 5;
     let carry = i / 625 % 5;
     let (width, n) = WIDTHS[(i / 5 % 5) as usize];
+    let values = operands(n);
     Given {
         function: FUNCTIONS[function as usize],
         width,
         operands: Operands {
-            left: operand(n, i / 25 % 5),
-            right: operand(n, i / 125 % 5),
+            left: values[left as usize],
+            right: values[right as usize],
             carry: CARRIES[carry as usize],
         },
     }
@@ -47,7 +45,7 @@ fn first_place(i: u32) -> Option<usize> {
 
 // All choices that are first out of range at a place; at none, all that are in range.
 pub fn first_out_at(rt: &HostRuntime, place: Option<usize>) -> Tally {
-    let mut tally = Tally::none();
+    let mut tally = Tally::default();
     for i in (0..3125).filter(|i| first_place(*i) == place) {
         let given = choice(i);
         count(rt, &mut tally, given, agree(given, place));

@@ -1,5 +1,6 @@
 // An input for every kind of answer that the programs print: the printed job and its mapping, cut to so many bytes and with a word changed.
 use crate::said;
+use input::Input;
 use testing::words::{JOB, MAPPING};
 
 // A word of a file changed: its place, and the word.
@@ -17,8 +18,8 @@ fn put(words: &mut [u32], changed: Change) {
 fn map(rt: &HostRuntime, bytes: usize, changed: Change) {
     let mut job = JOB;
     put(&mut job, changed);
-    said::map(rt, &job, bytes);
-    said::open(rt, &job, bytes);
+    said::map(rt, Input::of_words(&job, bytes));
+    said::open(rt, Input::of_words(&job, bytes));
 }
 
 pub fn map_inputs(rt: &HostRuntime) {
@@ -39,14 +40,16 @@ pub fn map_inputs(rt: &HostRuntime) {
 fn check_job(rt: &HostRuntime, bytes: usize, changed: Change, mapping_bytes: usize) {
     let mut job = JOB;
     put(&mut job, changed);
-    said::check(rt, &job, bytes, &MAPPING, mapping_bytes);
+    let mapping = Input::of_words(&MAPPING, mapping_bytes);
+    said::check(rt, Input::of_words(&job, bytes), mapping);
 }
 
 // The whole job, and so many bytes of a mapping with a word changed.
 fn check_mapping(rt: &HostRuntime, bytes: usize, changed: Change) {
     let mut mapping = MAPPING;
     put(&mut mapping, changed);
-    said::check(rt, &JOB, 56, &mapping, bytes);
+    let mapping = Input::of_words(&mapping, bytes);
+    said::check(rt, Input::of_words(&JOB, 56), mapping);
 }
 
 fn check_jobs(rt: &HostRuntime) {

@@ -5,56 +5,31 @@
 mod cases;
 mod said;
 
-ghost use Rattle.std.specs.Prelude.{◌+◌, ◌≤◌, ◌<◌, length, IfSome};
+ghost use Rattle.std.specs.Prelude.{◌≤◌, length};
 
-use hexadecimal::{Hex, Step};
-use input::KEPT_WORDS;
+use hexadecimal::Step;
+use input::{Input, KEPT_WORDS};
 use std::fs::File;
 use std::io::Read;
+use testing::words::Words;
 
-// The word being read, and how many are before it.
-#[derive(Clone, Copy)]
-struct Taken {
-    hex: Hex,
-    count: usize,
-}
-
-// Takes one byte of a text, and puts the word that it ends behind those before; nothing, if the byte cannot stand where it is.
-fn take(hex: Hex, byte: u8, words: &mut [u32], count: usize) -> Option<Taken>
-    requires { count < length words.old }
-    ensures { IfSome result (λ taken. taken.count ≤ count + 1) }
-{
-    match hexadecimal::taken(hex, byte)? {
-        Step::More(more) => Some(Taken { hex: more, count }),
-        Step::Word(word, next) => {
-            words[count] = word;
-            Some(Taken {
-                hex: next,
-                count: count + 1,
-            })
-        }
-    }
-}
-
-// The words of a text, as many as are lent, and how many they are. A text that is wrong ends at the byte that is.
-fn words_in(bytes: &[u8], words: &mut [u32]) -> usize
-    ensures { result ≤ length words.old }
-{
+// The words of a text, as many as are kept. A text that is wrong ends at the byte that is.
+fn words_in(bytes: &[u8]) -> Words<KEPT_WORDS> {
+    let mut words = Words::empty();
     let mut hex = hexadecimal::between(false);
-    let mut count = 0;
     for byte in bytes {
-        if words.len() <= count {
-            return count;
-        }
-        match take(hex, *byte, words, count) {
-            Some(taken) => {
-                hex = taken.hex;
-                count = taken.count;
+        let Some(step) = hexadecimal::taken(hex, *byte) else {
+            break;
+        };
+        hex = match step {
+            Step::More(more) => more,
+            Step::Word(word, next) => {
+                words.push(word);
+                next
             }
-            None => return count,
-        }
+        };
     }
-    count
+    words
 }
 
 // The most bytes that are read of a file.
@@ -65,11 +40,9 @@ fn read_full(file: &mut File, bytes: &mut [u8]) -> usize
     ensures { result ≤ length bytes.new }
 {
     let mut done = 0;
+    // Kept: no range is gone through; the system says how many bytes came.
     while done < bytes.len() {
-        let n = match file.read(&mut bytes[done..]) {
-            Ok(count) => count,
-            Err(_) => 0,
-        };
+        let n = file.read(&mut bytes[done..]).unwrap_or(0);
         if n == 0 {
             break;
         }
@@ -78,16 +51,12 @@ fn read_full(file: &mut File, bytes: &mut [u8]) -> usize
     done
 }
 
-// Reads the words of a file's text.
-fn read_words(rt: &HostRuntime, path: &[u8], words: &mut [u32]) -> usize
-    ensures { result ≤ length words.old }
+// Reads the bytes of a file, and answers how many were read: none where it cannot be opened.
+fn read_file(rt: &HostRuntime, path: &[u8], bytes: &mut [u8]) -> usize
+    ensures { result ≤ length bytes.new }
 {
     match input::open(rt, path) {
-        Ok(mut file) => {
-            let mut bytes = [0u8; MOST_FILE_BYTES];
-            let n = read_full(&mut file, &mut bytes);
-            words_in(&bytes[..n], words)
-        }
+        Ok(mut file) => read_full(&mut file, bytes),
         Err(why) => {
             console::fail(rt, path, why);
             0
@@ -95,28 +64,34 @@ fn read_words(rt: &HostRuntime, path: &[u8], words: &mut [u32]) -> usize
     }
 }
 
+// Reads the words of a file's text.
+fn read_words(rt: &HostRuntime, path: &[u8]) -> Input {
+    let mut bytes = [0u8; MOST_FILE_BYTES];
+    let n = read_file(rt, path, &mut bytes);
+    let words = words_in(&bytes[..n]);
+    let written = words.written();
+    Input::of_words(written, 4 * written.len())
+}
+
 // Maps a job.
 fn map(rt: &HostRuntime, path: &[u8]) {
-    let mut job = [0u32; KEPT_WORDS];
-    let kept = read_words(rt, path, &mut job);
-    console::print(rt, b"map ");
-    console::print(rt, path);
-    console::print(rt, b"\n");
-    said::map(rt, &job[..kept], 4 * kept);
+    let job = read_words(rt, path);
+    let _ = console::print(rt, b"map ");
+    let _ = console::print(rt, path);
+    let _ = console::print(rt, b"\n");
+    said::map(rt, job);
 }
 
 // Checks a mapping against its job.
 fn check(rt: &HostRuntime, path: &[u8], mapping_path: &[u8]) {
-    let mut job = [0u32; KEPT_WORDS];
-    let kept = read_words(rt, path, &mut job);
-    let mut mapping = [0u32; KEPT_WORDS];
-    let bound = read_words(rt, mapping_path, &mut mapping);
-    console::print(rt, b"check ");
-    console::print(rt, path);
-    console::print(rt, b" ");
-    console::print(rt, mapping_path);
-    console::print(rt, b"\n");
-    said::check(rt, &job[..kept], 4 * kept, &mapping[..bound], 4 * bound);
+    let job = read_words(rt, path);
+    let mapping = read_words(rt, mapping_path);
+    let _ = console::print(rt, b"check ");
+    let _ = console::print(rt, path);
+    let _ = console::print(rt, b" ");
+    let _ = console::print(rt, mapping_path);
+    let _ = console::print(rt, b"\n");
+    said::check(rt, job, mapping);
 }
 
 fn main(rt: HostRuntime) {
@@ -128,8 +103,8 @@ fn main(rt: HostRuntime) {
     check(&rt, b"board.job", b"board.mapping");
     map(&rt, b"book.job");
     check(&rt, b"book.job", b"book.mapping");
-    console::print(&rt, b"map inputs\n");
+    let _ = console::print(&rt, b"map inputs\n");
     cases::map_inputs(&rt);
-    console::print(&rt, b"check inputs\n");
+    let _ = console::print(&rt, b"check inputs\n");
     cases::check_inputs(&rt);
 }

@@ -1,34 +1,26 @@
-// What map_job, work_bench and check_mapping print of files: their words, and how many bytes of them are read.
+// What map_job, work_bench and check_mapping print of what was read of files.
 use input::Input;
 use sequence::MOST_MAPPING_WORDS;
-use text::Text;
+use text::Said;
 
-pub fn map(rt: &HostRuntime, job: &[u32], bytes: usize) {
+pub fn map(rt: &HostRuntime, job: Input) {
     // Kept: lent words and how many were written, as document 01 has a mapping written.
     let mut lent = [0u32; MOST_MAPPING_WORDS];
-    let mut text = Text::new();
-    let mapped = map_answers::map_input(Ok(Input::of_words(job, bytes)), &mut lent, &mut text);
+    let mut text = Said::new();
+    let mapped = map_answers::map_input(Ok(job), &mut lent, &mut text);
     if mapped.is_ok() {
-        console::print(rt, text.as_bytes());
+        let _ = console::print(rt, text.as_bytes());
     }
 }
 
-pub fn open(rt: &HostRuntime, job: &[u32], bytes: usize) {
-    let mut text = Text::new();
-    bench_answers::open(Ok(Input::of_words(job, bytes)), &mut text);
-    console::print(rt, text.as_bytes());
+pub fn open(rt: &HostRuntime, job: Input) {
+    let mut text = Said::new();
+    bench_answers::open(Ok(job), &mut text);
+    let _ = console::print(rt, text.as_bytes());
 }
 
-pub fn check(
-    rt: &HostRuntime,
-    job: &[u32],
-    job_bytes: usize,
-    mapping: &[u32],
-    mapping_bytes: usize,
-) {
-    let first = Input::of_words(job, job_bytes);
-    let second = Input::of_words(mapping, mapping_bytes);
-    let mut text = Text::new();
-    check_answers::check_inputs(Ok(first), Ok(second), &mut text);
-    console::print(rt, text.as_bytes());
+pub fn check(rt: &HostRuntime, job: Input, mapping: Input) {
+    let mut text = Said::new();
+    check_answers::check_inputs(Ok(job), Ok(mapping), &mut text);
+    let _ = console::print(rt, text.as_bytes());
 }

@@ -1,49 +1,41 @@
 -- The words of a file, one after the other; and a word's bytes give the word back.
-use mathlib.Core.Path.{◌≡◌, refl, ap, ◌∙◌}
-use mathlib.Core.List.{List, [], ◌∷◌}
-use Prim.Native.Nat.{ℕ, suc, ◌+◌, ◌*◌, ◌/◌, ◌%◌, ◌^◌, ◌≤◌, ◌<◌}
+use mathlib.Core.Path.{◌≡◌, refl, ap, sym, ◌∙◌}
+use mathlib.Core.List.{List, [], ◌∷◌, map}
+use Prim.Native.Nat.{ℕ, suc, ◌+◌, ◌/◌, ◌%◌, ◌^◌, ◌≤◌, ◌<◌}
 use native.Mathlib.Nat.{div-div-eq-div-mul}
 use native.Mathlib.Omega.{arith}
-use lib.ListN.{length, drop, get_or, set, length-drop}
-use lib.Seq.{sets}
-use Rattle.words.proofs.Lists.{drop-next}
+use lib.ListN.{length, drop, get_or, set, drop_of_length-le}
+use lib.Seq.{sets, drop-cons}
+use Rattle.std.specs.Simd.{first_chunks}
 use Rattle.files.specs.Files.{word_from, words_of, file_of}
 
--- what is left of a word cut short
-rest_none : (bytes : List ℕ) → length bytes < 4 → words_of bytes ≡ []
-unfolding words_of
-rest_none [] h = refl
-rest_none (a ∷ []) h = refl
-rest_none (a ∷ b ∷ []) h = refl
-rest_none (a ∷ b ∷ c ∷ []) h = refl
-rest_none (a ∷ b ∷ c ∷ d ∷ bytes) h = absurd (omega arith)
+-- the word of four bytes that stand together
+abbrev pub four : List ℕ → ℕ
+four bytes = word_from (get_or bytes 0 0) (get_or bytes 1 0) (get_or bytes 2 0) (get_or bytes 3 0)
 
-four_next : (bytes : List ℕ) (at : ℕ) → at + 3 < length bytes
-    → drop at bytes
-    ≡ get_or bytes at 0 ∷ get_or bytes (at + 1) 0 ∷ get_or bytes (at + 2) 0 ∷ get_or bytes (at + 3) 0 ∷ drop (at + 4) bytes
-four_next bytes at h =
-    drop-next bytes at (omega arith)
-    ∙ ap (λ (l : List ℕ). get_or bytes at 0 ∷ l) (next (at + 1) (at + 2) (omega arith) (omega arith)
-    ∙ ap (λ (l : List ℕ). get_or bytes (at + 1) 0 ∷ l) (next (at + 2) (at + 3) (omega arith) (omega arith)
-    ∙ ap (λ (l : List ℕ). get_or bytes (at + 2) 0 ∷ l) (next (at + 3) (at + 4) (omega arith) (omega arith))))
-  where
-    next : (i k : ℕ) → i < length bytes → i + 1 ≡ k → drop i bytes ≡ get_or bytes i 0 ∷ drop k bytes
-    next i k l e = drop-next bytes i l ∙ ap (λ (m : ℕ). get_or bytes i 0 ∷ drop m bytes) e
+chunked : (bytes : List ℕ) → words_of bytes ≡ map four (first_chunks 4 (length bytes / 4) bytes)
+unfolding words_of
+chunked [] = refl
+chunked (a ∷ []) = refl
+chunked (a ∷ b ∷ []) = refl
+chunked (a ∷ b ∷ c ∷ []) = refl
+chunked (a ∷ b ∷ c ∷ d ∷ bytes) =
+    let e : length (a ∷ b ∷ c ∷ d ∷ bytes) / 4 ≡ suc (length bytes / 4) = omega arith in
+    rw e (ap (λ (l : List ℕ). word_from a b c d ∷ l) (chunked bytes))
 
 -- ---- the loop
 
-module _ (bytes words whole : List ℕ) (i : ℕ) (e : sets words i (words_of (drop (4 * i) bytes)) ≡ whole) where
-  pub one_word : (k x : ℕ) → i < k → k ≡ length bytes / 4
-      → x ≡ word_from (get_or bytes (4 * i) 0) (get_or bytes (4 * i + 1) 0) (get_or bytes (4 * i + 2) 0) (get_or bytes (4 * i + 3) 0)
-      → sets (set words i x) (i + 1) (words_of (drop (4 * (i + 1)) bytes)) ≡ whole
-  unfolding words_of
-  one_word k x l m u =
+module _ (chunks : List (List ℕ)) (words whole : List ℕ) (i : ℕ) (e : sets words i (map four (drop i chunks)) ≡ whole) where
+  pub one_word : (x : ℕ) → i < length chunks → x ≡ four (get_or chunks i []) → sets (set words i x) (i + 1) (map four (drop (i + 1) chunks)) ≡ whole
+  one_word x l u =
       let p : i + 1 ≡ suc i = omega arith in
-      let q : 4 * (i + 1) ≡ 4 * i + 4 = omega arith in
-      rw (q, p, u) (rw (four_next bytes (4 * i) (omega arith)) at e)
+      rw (p, u) (rw (drop-cons chunks i [] l) at e)
 
-pub all_words : (bytes words : List ℕ) (i : ℕ) → length bytes / 4 ≤ i → sets words i (words_of (drop (4 * i) bytes)) ≡ words
-all_words bytes words i h = rw (rest_none (drop (4 * i) bytes) (omega (arith, length-drop (4 * i) bytes))) refl
+  pub all_words : length chunks ≤ i → words ≡ whole
+  all_words l = rw (drop_of_length-le chunks l) at e
+
+pub unpacked : (bytes : List ℕ) (chunks : List (List ℕ)) → chunks ≡ first_chunks 4 (length bytes / 4) bytes → map four chunks ≡ words_of bytes
+unpacked bytes chunks u = rw u (sym (chunked bytes))
 
 -- ---- a word's bytes are its own, and a file written word by word is read back
 

@@ -1,2 +1,3 @@
 pub mod Pair
+pub mod Pairing
 pub mod Fitting

@@ -5,11 +5,12 @@ ghost use Rattle.std.specs.Prelude.{◌≡◌};
 ghost use Rattle.reader.specs.Starts.{bindings_start};
 ghost use Rattle.table.specs.Parts as T;
 ghost use Rattle.fitting.specs.Pair as P;
+ghost use Rattle.fitting.specs.Pairing as Q;
 ghost use Rattle.fitting.specs.Fitting as F;
 ghost use Rattle.fitting.specs.declared.PairError.TheVariants.{Refused};
 
 use reader::{Job, Mapping};
-use table::Terms;
+use table::{JobWords, MappingWords, Terms};
 use words::{Fault, Refusal};
 
 // A refusal of a job and a mapping handed in together: 1 to 6 of the one or of the other, or a later one, which speaks of both.
@@ -38,6 +39,37 @@ pub fn read_pair(job: &[u32], mapping: &[u32]) -> Result<(Job, Mapping), PairErr
     Ok((facts, binds))
 }
 
+// A mapping that was read, with its bindings, under the terms of the job that was read with it.
+#[derive(Clone, Copy)]
+pub struct Pair<'a> {
+    pub terms: Terms<'a>,
+    pub mapping: Mapping,
+    pub bindings: &'a [u32],
+}
+
+impl<'a> Pair<'a> {
+    // Reads the words of a job and of a mapping, or gives the first refusal, 1 to 6.
+    #[tactic(auto, using(crate::proofs::Pairs::job_read, crate::proofs::Pairs::mapping_read), unfolding(crate::specs::Pairing::pairing_of))]
+    pub fn read(job: &'a [u32], mapping: &'a [u32]) -> Result<Pair<'a>, PairError>
+        ensures { Q.held_of result ≡ Q.pairing_of job.now mapping.now }
+    {
+        let (facts, binds) = read_pair(job, mapping)?;
+        let job_words = JobWords {
+            words: job,
+            job: facts,
+        };
+        let mapping_words = MappingWords {
+            words: mapping,
+            mapping: binds,
+        };
+        Ok(Pair {
+            terms: job_words.terms(),
+            mapping: binds,
+            bindings: mapping_words.bindings(),
+        })
+    }
+}
+
 // Whether the functions of all bindings are in the job.
 #[tactic(auto, using(crate::proofs::Fitted::next_binding, crate::proofs::Fitted::none_strange))]
 fn all_in_job(terms: &Terms, bindings: &[u32]) -> Result<(), Refusal>
@@ -56,14 +88,14 @@ fn all_in_job(terms: &Terms, bindings: &[u32]) -> Result<(), Refusal>
 
 // Whether a mapping fits its job, or the first refusal, 7 or 8: the width first, then the bindings.
 #[tactic(auto, unfolding(crate::specs::Fitting::fit_of))]
-pub fn fit_of(terms: &Terms, mapping: Mapping, bindings: &[u32]) -> Result<(), Refusal>
-    ensures { result ≡ F.fit_of (T.terms_held terms.now) mapping bindings.now }
+pub fn fit_of(pair: &Pair) -> Result<(), Refusal>
+    ensures { result ≡ F.fit_of (T.terms_held pair.now.terms) pair.now.mapping pair.now.bindings.now }
 {
-    if terms.width.n != mapping.width {
+    if pair.terms.width.n != pair.mapping.width {
         return Err(Refusal {
             fault: Fault::OtherWidth,
             place: 0,
         });
     }
-    all_in_job(terms, bindings)
+    all_in_job(&pair.terms, pair.bindings)
 }

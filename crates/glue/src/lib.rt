@@ -10,12 +10,11 @@ use bits::Width;
 use words::Prices;
 
 // Whether a code is in use.
-#[tactic(auto, unfolding(bits::specs::Bits::bit))]
 pub fn has(part: u64, code: u32) -> bool
     requires { code < 32 }
     ensures { result ≡ B.bit part code }
 {
-    (part >> code) % 2 == 1
+    bits::bit(part, code)
 }
 
 // How many of `size` codes are in use, from one code on.

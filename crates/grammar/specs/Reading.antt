@@ -5,10 +5,10 @@ use Rattle.words.specs.Kinds.{HEADER, PRICES, SOURCE, TARGET, RULE, BINDING, GLU
 use Rattle.words.specs.declared.kind.WordKind.{WordKind}
 use Rattle.words.specs.Paper.{unless_fault}
 use Rattle.words.specs.declared.Fault.{Fault}
-use Rattle.words.specs.declared.Fault.TheVariants.{OutOfSequence, NotLaidOut, NotRising, ReadsUndriven, OtherOutputs}
+use Rattle.words.specs.declared.Fault.TheVariants.{OutOfSequence, NotLaidOut, NotRising}
 use Rattle.alu.specs.Range.{is_function, is_width}
 use Rattle.recipe.specs.Fields.{source_of}
-use Rattle.layout.specs.Layout.{laid_out, reads_undriven, shows_other}
+use Rattle.layout.specs.Layout.{laid_out, output_fault}
 use Rattle.sequence.specs.Sequence.{stage_of, function_of, in_sequence}
 use Rattle.sequence.specs.declared.File.{File}
 use Rattle.sequence.specs.declared.File.TheVariants.{AsJob, AsMapping}
@@ -74,9 +74,7 @@ word_fault file s w =
     else if not (fits file w) then Some NotLaidOut
     else if not (rises s w) then Some NotRising
     else if not (is_recipe (kind_of w)) then None
-    else if reads_undriven w then Some ReadsUndriven
-    else if shows_other w then Some OtherOutputs
-    else None
+    else output_fault w
 
 -- before the first word
 abbrev pub beginning : State

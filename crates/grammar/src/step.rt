@@ -39,9 +39,9 @@ fn kind_fits(file: File, word: Word) -> bool
 pub fn fits(file: File, word: u32) -> bool
     ensures { result ≡ R.fits file word }
 {
-    match Word::of(word) {
-        Some(word) => kind_fits(file, word),
-        None => layout::laid_out(word),
+    match Word::try_from(word) {
+        Ok(word) => kind_fits(file, word),
+        Err(_) => layout::laid_out(word),
     }
 }
 
@@ -88,20 +88,14 @@ fn word_fault(file: File, s: State, word: Word) -> Option<Fault>
     if !word.kind.is_recipe() {
         return None;
     }
-    if layout::reads_undriven(word.bits) {
-        return Some(Fault::ReadsUndriven);
-    }
-    if layout::shows_other(word.bits) {
-        return Some(Fault::OtherOutputs);
-    }
-    None
+    layout::output_fault(word.bits)
 }
 
 fn raised(count: u32, more: bool) -> u32
     requires { count ≤ most_job_words }
     ensures { result ≡ R.raised count more }
 {
-    if more { count + 1 } else { count }
+    count + u32::from(more)
 }
 
 // The state after a word that passed.
@@ -121,12 +115,13 @@ fn after(s: State, word: Word) -> State
 }
 
 // The next state, or why the word is refused.
+// Kept: three functions ask that no count is large. A count is at most the words before, which grows by one a word; a type has one bound.
 #[tactic(auto, using(crate::proofs::Steps::no_step))]
 pub fn pass(file: File, s: State, word: u32) -> Result<State, Fault>
     requires { Q.Counted s most_job_words }
     ensures { result ≡ R.step_of file s word }
 {
-    let Some(word) = Word::of(word) else {
+    let Ok(word) = Word::try_from(word) else {
         return Err(Fault::OutOfSequence);
     };
     match word_fault(file, s, word) {

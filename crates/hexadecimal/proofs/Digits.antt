@@ -1,12 +1,12 @@
 -- The digits that are left of a text, by its next byte and at its end.
-use mathlib.Core.Path.{◌≡◌, sym}
+use mathlib.Core.Path.{◌≡◌, refl, sym}
 use mathlib.Core.List.{List}
 use Prim.Native.Nat.{ℕ, ◌+◌, ◌<◌, ◌≤◌}
 use lib.ListN.{length, drop, get_or, drop_of_length-le}
-use Rattle.std.specs.Prelude.{Option, None, Some}
+use Rattle.std.specs.Prelude.{Option, None, Some, false}
 use Rattle.std.specs.Option.{option_and_then}
 use Rattle.words.proofs.Lists.{drop-next}
-use Rattle.hexadecimal.specs.Hex.{with_digit, digits_left}
+use Rattle.hexadecimal.specs.Hex.{between, ended, with_digit, digits_left, word_of, last_word, step_in, word_in}
 use Rattle.hexadecimal.specs.declared.Hex.{Hex}
 
 module _ (text : List ℕ) (i : ℕ) (h : Hex) (whole : Option Hex) (e : digits_left h (drop i text) ≡ whole) where
@@ -24,3 +24,11 @@ module _ (text : List ℕ) (i : ℕ) (h : Hex) (whole : Option Hex) (e : digits_
 
     pub none_read : None ≡ with_digit h (get_or text i 0) → None ≡ whole
     none_read d = rw (sym d) at next
+
+-- the word that a text ends is that of its step
+pub word_read : (text : List ℕ) → word_in text ≡ option_and_then word_of (step_in text)
+word_read text = split (digits_left (between false) text)
+  where
+    split : (o : Option Hex) → option_and_then last_word o ≡ option_and_then word_of (option_and_then (λ (h : Hex). ended h false) o)
+    split None = refl
+    split (Some h) = refl

@@ -49,6 +49,10 @@ unfoldable pub digits_left : Hex → List ℕ → Option Hex
 digits_left h [] = Some h
 digits_left h (b ∷ bs) = option_and_then (λ k. digits_left k bs) (with_digit h b)
 
+-- what the end of such a text makes of them
+abbrev pub step_in : List ℕ → Option Step
+step_in text = option_and_then (λ h. ended h false) (digits_left (between false) text)
+
 -- the word that the end of a text ends
 abbrev pub word_of : Step → Option ℕ
 word_of (Word w h) = Some w

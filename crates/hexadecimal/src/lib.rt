@@ -13,6 +13,7 @@ pub struct Hex {
 }
 
 // After a byte: the text goes on, or a word is complete and the text goes on.
+// Kept: two cases by name, as the definitions have them. An `Option` of the word beside what comes next would say no more.
 #[derive(Clone, Copy)]
 pub enum Step {
     More(Hex),
@@ -35,12 +36,7 @@ pub fn between(comment: bool) -> Hex
 pub fn digit_of(byte: u8) -> Option<u32>
     ensures { result ≡ T.digit_of byte }
 {
-    match byte {
-        b'0'..=b'9' => Some((byte - b'0') as u32),
-        b'A'..=b'F' => Some((byte - b'A') as u32 + 10),
-        b'a'..=b'f' => Some((byte - b'a') as u32 + 10),
-        _ => None,
-    }
+    char::from(byte).to_digit(16)
 }
 
 #[tactic(auto, unfolding(crate::specs::Hex::parts))]
@@ -95,24 +91,24 @@ pub fn taken(hex: Hex, byte: u8) -> Option<Step>
     Some(Step::More(with_digit(hex, byte)?))
 }
 
-// The word whose digits are all of a text.
+// What a text comes to whose bytes are all digits of one word: that word, or nothing of one where there are none.
 #[tactic(auto, using(crate::proofs::Digits::one_read, crate::proofs::Digits::none_read, crate::proofs::Digits::all_read))]
-pub fn word_in(text: &[u8]) -> Option<u32>
-    ensures { result ≡ T.word_in text.now }
+pub fn step_in(text: &[u8]) -> Option<Step>
+    ensures { result ≡ T.step_in text.now }
 {
     let mut hex = between(false);
     for byte in text {
         hex = with_digit(hex, *byte)?;
     }
-    last_word(hex)
+    ended(hex, false)
 }
 
-// The word that the end of the text ends.
-#[tactic(auto, unfolding(crate::specs::Hex::ended))]
-fn last_word(hex: Hex) -> Option<u32>
-    ensures { result ≡ T.last_word hex }
+// The word whose digits are all of a text.
+#[tactic(auto, using(crate::proofs::Digits::word_read))]
+pub fn word_in(text: &[u8]) -> Option<u32>
+    ensures { result ≡ T.word_in text.now }
 {
-    match ended(hex, false)? {
+    match step_in(text)? {
         Step::Word(word, _) => Some(word),
         Step::More(_) => None,
     }

@@ -1,6 +1,9 @@
 -- What is said of a file that was read: "a last word cut short is 2 at its index". Which bytes a file has, and whether a read failed, is
 -- the system's choice; all else follows from it.
 use Rattle.std.specs.Prelude.{ℕ, ◌+◌, ◌*◌, ◌/◌, ◌%◌, ◌≡◌, Option, None, Some, List, Result, Ok, Err, ⊤, eqb, length, take, if◌then◌else◌}
+use Rattle.words.specs.Paper.{refusal}
+use Rattle.words.specs.declared.Refusal.{Refusal}
+use Rattle.words.specs.declared.Fault.TheVariants.{OutOfSequence}
 use Rattle.sequence.specs.Limits.{most_job_words}
 use Rattle.files.specs.Files.{words_of}
 use Rattle.console.specs.declared.Failed.{Failed}
@@ -21,9 +24,9 @@ pub record Words : Type 0 where
 abbrev pub whole : Words → ℕ
 whole input = input.bytes / 4
 
--- the index of a last word that is cut short, if one is
-abbrev pub cut_at : Words → Option ℕ
-cut_at input = if eqb (input.bytes % 4) 0 then None else Some (whole input)
+-- "a last word cut short is 2 at its index": that refusal, if it is cut short
+abbrev pub cut : Words → Option Refusal
+cut input = if eqb (input.bytes % 4) 0 then None else Some (refusal OutOfSequence (whole input))
 
 -- of so many bytes of a file of these words
 abbrev pub kept_of : List ℕ → ℕ → Words

@@ -6,11 +6,13 @@ ghost use Rattle.std.proofs.lemmas.List.Edits.{sets};
 ghost use Rattle.input.specs.Read as R;
 ghost use Rattle.input.specs.Kept as K;
 
+use arguments::Argument;
 use console::Failed;
 use std::fs::File;
 use std::io::{Error, ErrorKind, Read};
 use std::marker::Model;
 use std::str;
+use words::{Fault, Refusal};
 
 // The most words that are kept, and their bytes.
 pub const KEPT_WORDS: usize = sequence::MOST_JOB_WORDS + 1;
@@ -67,14 +69,17 @@ impl Input {
         &self.words[..self.kept]
     }
 
-    // The index of a last word that is cut short, if one is.
-    pub fn cut_at(&self) -> Option<usize>
-        ensures { result ≡ R.cut_at self.now }
+    // The refusal of a last word that is cut short, if it is.
+    pub fn cut(&self) -> Option<Refusal>
+        ensures { result ≡ R.cut self.now }
     {
         if self.bytes % 4 == 0 {
             return None;
         }
-        Some(self.whole())
+        Some(Refusal {
+            fault: Fault::OutOfSequence,
+            place: self.whole(),
+        })
     }
 
     // The whole words of the file, kept or not.
@@ -106,13 +111,8 @@ fn read_chunk<S: Read>(
 ) -> Result<usize, Failed>
     ensures { IfOk result (λ n. n ≤ length chunk.old) }
 {
-    match reader.read(chunk) {
-        Ok(bytes) => Ok(bytes),
-        Err(why) => {
-            console::fail(rt, name, why);
-            Err(Failed)
-        }
-    }
+    let read = reader.read(chunk);
+    read.map_err(|why| console::said(rt, name, why))
 }
 
 // Reads once, and answers how many bytes came.
@@ -199,13 +199,8 @@ pub fn open(rt: &HostRuntime, path: &[u8]) -> Result<File, Error> {
 pub fn read_file(rt: &HostRuntime, argument: usize) -> Result<Input, Failed>
     ensures { R.Read result }
 {
-    let mut path = [0u8; arguments::MOST_BYTES];
-    let length = arguments::put_argument(rt, argument, &mut path);
-    match open(rt, &path[..length]) {
-        Ok(mut file) => read_words(rt, &mut file, &path[..length]),
-        Err(why) => {
-            console::fail(rt, &path[..length], why);
-            Err(Failed)
-        }
-    }
+    let argument = Argument::at(rt, argument);
+    let path = argument.as_bytes();
+    let mut file = open(rt, path).map_err(|why| console::said(rt, path, why))?;
+    read_words(rt, &mut file, path)
 }

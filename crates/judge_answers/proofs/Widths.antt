@@ -4,7 +4,7 @@ use mathlib.Core.Bool.{Bool, true, false, not}
 use Prim.Native.Nat.{ℕ, ◌+◌, ◌≤◌, ◌<◌}
 use native.Mathlib.Omega.{arith}
 use lib.Dec.{ltb}
-use borrow.Author.Tests.{le-leb, le-ltb, ltb-true, ltb-false}
+use borrow.Author.Tests.{ltb-true, ltb-false}
 use Rattle.std.specs.Prelude.{if◌then◌else◌, Option, Some, None, Ok, Err}
 use Rattle.words.specs.Field.{kind_of}
 use Rattle.words.specs.Kinds.{is_recipe}
@@ -12,6 +12,7 @@ use Rattle.words.specs.declared.Fault.{Fault}
 use Rattle.words.specs.declared.Refusal.{Refusal}
 use Rattle.words.specs.declared.Witness.{Witness}
 use Rattle.alu.specs.Range.{is_width}
+use Rattle.alu.proofs.Shown.{is_width_lem}
 use Rattle.layout.specs.Layout.{recipe_fault}
 use Rattle.binding.specs.Right.{claim_of}
 use Rattle.binding.specs.declared.Claim.{Claim}
@@ -19,10 +20,6 @@ use Rattle.verdict.specs.Verdicts.{Refuses, Decides, unless, judge_of, Passes, J
 use Rattle.verdict.specs.declared.Verdict.{Verdict}
 use Rattle.verdict.specs.declared.Verdict.TheVariants.{Right as IsRight, Wrong as IsWrong}
 use Rattle.judge_answers.specs.Everywhere.{RightBelow, JudgedEverywhere}
-
-width_of : (n : ℕ) → 1 ≤ n → n ≤ 64 → is_width n ≡ true
-unfolding is_width
-width_of n l m = rw (le-ltb n 1 l, le-leb n 64 m) refl
 
 -- where both widths are widths, a refusal does not depend on them
 alike : (n : ℕ) (a : Bool) (f : Option Fault) (x r : Refusal) (c : Claim)
@@ -34,11 +31,11 @@ alike n false None x r c p = p
 refused-alike : (w n : ℕ) (r : Refusal) → is_width n ≡ true → Judged w n (Err r) → Judged w 1 (Err r)
 unfolding judge_of
 refused-alike w n r e p =
-    rw (width_of 1 (omega arith) (omega arith)) (alike n (not (is_recipe (kind_of w))) (recipe_fault w) _ r (claim_of w) (rw e at p))
+    rw (is_width_lem 1 (omega arith) (omega arith)) (alike n (not (is_recipe (kind_of w))) (recipe_fault w) _ r (claim_of w) (rw e at p))
 
 module _ (w n : ℕ) (l : 1 ≤ n) (m : n ≤ 64) where
   pub refused_everywhere : (r : Refusal) → Judged w n (Err r) → JudgedEverywhere w (Err r)
-  refused_everywhere r p = refused-alike w n r (width_of n l m) p
+  refused_everywhere r p = refused-alike w n r (is_width_lem n l m) p
 
   module _ (below : RightBelow w n) (v : Verdict) (p : Judged w n (Ok v)) where
     judged_as : (u : Verdict) → v ≡ u → Judged w n (Ok u)

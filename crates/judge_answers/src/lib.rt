@@ -2,7 +2,6 @@
 #![tactic(auto)]
 
 ghost use Rattle.std.specs.Prelude.{◌≡◌, ◌+◌, ◌≤◌, ◌++◌, length, Ok, Err, Some};
-ghost use Rattle.text.specs.Text.{room};
 ghost use Rattle.lines.specs.Lines as L;
 ghost use Rattle.verdict.specs.declared.Verdict.TheVariants as D;
 ghost use Rattle.judge_answers.specs.Everywhere as E;
@@ -35,8 +34,8 @@ fn judge_everywhere(word: u32) -> Result<Option<WrongAt>, Refusal>
 }
 
 // A refusal behind the word.
-fn put_refused(refusal: Refusal, line: &mut Text)
-    requires { length line.old + M.most_behind_bytes ≤ room }
+fn put_refused<const ROOM: usize>(refusal: Refusal, line: &mut Text<ROOM>)
+    requires { length line.old + M.most_behind_bytes ≤ ROOM }
     ensures short { length line.new ≤ length line.old + M.most_behind_bytes }
     ensures text { line.new ≡ line.old ++ S.judgement_text (Err refusal) }
 {
@@ -46,8 +45,8 @@ fn put_refused(refusal: Refusal, line: &mut Text)
 }
 
 // A wrong recipe's operands behind the word.
-fn put_wrong(witness: Witness, line: &mut Text)
-    requires { length line.old + M.most_behind_bytes ≤ room }
+fn put_wrong<const ROOM: usize>(witness: Witness, line: &mut Text<ROOM>)
+    requires { length line.old + M.most_behind_bytes ≤ ROOM }
     ensures short { length line.new ≤ length line.old + M.most_behind_bytes }
     ensures text { line.new ≡ line.old ++ S.judgement_text (Ok (D.Wrong witness)) }
 {
@@ -57,8 +56,8 @@ fn put_wrong(witness: Witness, line: &mut Text)
 }
 
 // The width and a wrong recipe's operands behind the word.
-fn put_wrong_at(wrong: WrongAt, line: &mut Text)
-    requires { length line.old + M.most_behind_bytes ≤ room }
+fn put_wrong_at<const ROOM: usize>(wrong: WrongAt, line: &mut Text<ROOM>)
+    requires { length line.old + M.most_behind_bytes ≤ ROOM }
     ensures short { length line.new ≤ length line.old + M.most_behind_bytes }
     ensures text { line.new ≡ line.old ++ S.everywhere_text (Ok (Some wrong)) }
 {
@@ -68,8 +67,8 @@ fn put_wrong_at(wrong: WrongAt, line: &mut Text)
 }
 
 // A judgement behind the word.
-fn put_judgement(judgement: Result<Verdict, Refusal>, line: &mut Text)
-    requires { length line.old + M.most_behind_bytes ≤ room }
+fn put_judgement<const ROOM: usize>(judgement: Result<Verdict, Refusal>, line: &mut Text<ROOM>)
+    requires { length line.old + M.most_behind_bytes ≤ ROOM }
     ensures short { length line.new ≤ length line.old + M.most_behind_bytes }
     ensures text { line.new ≡ line.old ++ S.judgement_text judgement }
 {
@@ -82,8 +81,11 @@ fn put_judgement(judgement: Result<Verdict, Refusal>, line: &mut Text)
 
 // The judgement at every width behind the word.
 // Kept: one function for this and put_judgement would take a width that may be lacking, or a closure; no plainer than three arms.
-fn put_everywhere_text(everywhere: Result<Option<WrongAt>, Refusal>, line: &mut Text)
-    requires { length line.old + M.most_behind_bytes ≤ room }
+fn put_everywhere_text<const ROOM: usize>(
+    everywhere: Result<Option<WrongAt>, Refusal>,
+    line: &mut Text<ROOM>,
+)
+    requires { length line.old + M.most_behind_bytes ≤ ROOM }
     ensures short { length line.new ≤ length line.old + M.most_behind_bytes }
     ensures text { line.new ≡ line.old ++ S.everywhere_text everywhere }
 {
@@ -96,8 +98,8 @@ fn put_everywhere_text(everywhere: Result<Option<WrongAt>, Refusal>, line: &mut 
 
 // The line of a word judged at a width.
 #[tactic(auto, unfolding(text::specs::Text::hexadecimal))]
-pub fn put_at(word: u32, width: u32, line: &mut Text)
-    requires { length line.old + L.most_line_bytes ≤ room }
+pub fn put_at<const ROOM: usize>(word: u32, width: u32, line: &mut Text<ROOM>)
+    requires { length line.old + L.most_line_bytes ≤ ROOM }
     ensures short { length line.new ≤ length line.old + L.most_line_bytes }
     ensures said { S.SaysAt word width line.old line.new }
 {
@@ -108,8 +110,8 @@ pub fn put_at(word: u32, width: u32, line: &mut Text)
 
 // The line of a word judged at every width.
 #[tactic(auto, unfolding(text::specs::Text::hexadecimal))]
-pub fn put_everywhere(word: u32, line: &mut Text)
-    requires { length line.old + L.most_line_bytes ≤ room }
+pub fn put_everywhere<const ROOM: usize>(word: u32, line: &mut Text<ROOM>)
+    requires { length line.old + L.most_line_bytes ≤ ROOM }
     ensures short { length line.new ≤ length line.old + L.most_line_bytes }
     ensures said { S.SaysEverywhere word line.old line.new }
 {

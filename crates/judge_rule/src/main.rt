@@ -3,16 +3,16 @@
 #![tactic(auto)]
 
 ghost use Rattle.std.specs.Prelude.{◌+◌, ◌≤◌, length};
-ghost use Rattle.text.specs.Text.{room};
 ghost use Rattle.lines.specs.Lines.{most_line_bytes};
 ghost use Rattle.judge_rule.specs.Asked.{SaysAsked};
 
-use arguments::Widths;
-use text::Text;
+use arguments::{Argument, Widths};
+use console::Failed;
+use text::{Said, Text};
 
 // The line of a word.
-fn put_line(word: u32, widths: Widths, line: &mut Text)
-    requires { length line.old + most_line_bytes ≤ room }
+fn put_line<const ROOM: usize>(word: u32, widths: Widths, line: &mut Text<ROOM>)
+    requires { length line.old + most_line_bytes ≤ ROOM }
     ensures short { length line.new ≤ length line.old + most_line_bytes }
     ensures said { SaysAsked widths word line.old line.new }
 {
@@ -22,29 +22,27 @@ fn put_line(word: u32, widths: Widths, line: &mut Text)
     }
 }
 
-// Prints a word's line, and answers whether it could.
-fn judge_word(rt: &HostRuntime, word: u32, widths: Widths) -> bool {
-    let mut line = Text::new();
+// Prints a word's line.
+fn judge_word(rt: &HostRuntime, word: u32, widths: Widths) -> Result<(), Failed> {
+    let mut line = Said::new();
     put_line(word, widths, &mut line);
     console::print(rt, line.as_bytes())
 }
 
-// Judges each word, until the text is over or a line cannot be printed.
+// Judges each word, until the text is over.
 #[tactic(auto, unfolding(word_text::specs::Next::Forward))]
-fn judge_all(rt: &HostRuntime, widths: Widths) {
+fn judge_all(rt: &HostRuntime, widths: Widths) -> Result<(), Failed> {
     let mut text = word_text::unread();
     while let Some(word) = text.next(rt, b"judge_rule") {
-        if !judge_word(rt, word, widths) {
-            return;
-        }
+        judge_word(rt, word, widths)?;
     }
+    Ok(())
 }
 
 // The widths that are asked for.
 fn asked_widths(rt: &HostRuntime) -> Option<Widths> {
-    let mut argument = [0u8; arguments::MOST_BYTES];
-    let length = arguments::put_argument(rt, 1, &mut argument);
-    arguments::widths_in(&argument[..length])
+    let argument = Argument::at(rt, 1);
+    arguments::widths_in(argument.as_bytes())
 }
 
 // How the program is called.
@@ -68,7 +66,9 @@ fn main(rt: HostRuntime) {
         return;
     }
     match asked_widths(&rt) {
-        Some(widths) => judge_all(&rt, widths),
+        Some(widths) => {
+            let _ = judge_all(&rt, widths);
+        }
         None => console::tell(&rt, &USAGE),
     }
 }

@@ -1,7 +1,7 @@
 // Prints the lines of some words judged at every width, as judge_rule does with all.
 #![tactic(auto)]
 
-use text::Text;
+use text::Said;
 
 // Right at every width; wrong at 1, at an output port and at the comparison; right at 1 and wrong at 2; refused with 2, 3, 5 and 6.
 const WORDS: [u32; 13] = [
@@ -11,9 +11,9 @@ const WORDS: [u32; 13] = [
 
 // Prints the line of a word.
 fn print_line(rt: &HostRuntime, word: u32) {
-    let mut line = Text::new();
+    let mut line = Said::new();
     judge_answers::put_everywhere(word, &mut line);
-    console::print(rt, line.as_bytes());
+    let _ = console::print(rt, line.as_bytes());
 }
 
 fn main(rt: HostRuntime) {

@@ -76,10 +76,10 @@ shows_source r = exactly (outputs r) (drives (function_of r.source))
 unfoldable pub shows_other : ℕ → Bool
 shows_other w = if from_scratch w then false else not (shows_source (fields_of w))
 
+-- 5 or 6 of a recipe word, in this order, or none
+abbrev pub output_fault : ℕ → Option Fault
+output_fault w = if reads_undriven w then Some ReadsUndriven else if shows_other w then Some OtherOutputs else None
+
 -- the refusal of a recipe word, 3, 5 or 6 in this order, or none
 unfoldable pub recipe_fault : ℕ → Option Fault
-recipe_fault w =
-    if not (laid_out w) then Some NotLaidOut
-    else if reads_undriven w then Some ReadsUndriven
-    else if shows_other w then Some OtherOutputs
-    else None
+recipe_fault w = if not (laid_out w) then Some NotLaidOut else output_fault w

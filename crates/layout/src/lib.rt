@@ -98,9 +98,7 @@ pub fn reads_undriven(word: u32) -> bool
 fn shows_source(fields: Fields) -> bool
     ensures { result ≡ L.shows_source fields }
 {
-    let shown = outputs(fields);
-    let driven = alu::drives(alu::function_of(fields.source));
-    within(shown, driven) & within(driven, shown)
+    outputs(fields) == alu::drives(alu::function_of(fields.source))
 }
 
 // Whether a recipe's outputs are not exactly its source function's ports: refusal 6.
@@ -111,14 +109,10 @@ pub fn shows_other(word: u32) -> bool
     !from_scratch(word) && !shows_source(unpack(word))
 }
 
-// The refusal of a recipe word, 3, 5 or 6, or none.
-#[tactic(auto, unfolding(crate::specs::Layout::recipe_fault))]
-pub fn recipe_fault(word: u32) -> Option<Fault>
-    ensures { result ≡ L.recipe_fault word }
+// The refusal of a recipe word for its outputs, 5 or 6, or none.
+pub fn output_fault(word: u32) -> Option<Fault>
+    ensures { result ≡ L.output_fault word }
 {
-    if !laid_out(word) {
-        return Some(Fault::NotLaidOut);
-    }
     if reads_undriven(word) {
         return Some(Fault::ReadsUndriven);
     }
@@ -126,4 +120,16 @@ pub fn recipe_fault(word: u32) -> Option<Fault>
         return Some(Fault::OtherOutputs);
     }
     None
+}
+
+// The refusal of a recipe word, 3, 5 or 6, or none.
+// Kept: an `Option`, as the definition has it: the refusal is what is asked for, also where it is shown with the word.
+#[tactic(auto, unfolding(crate::specs::Layout::recipe_fault))]
+pub fn recipe_fault(word: u32) -> Option<Fault>
+    ensures { result ≡ L.recipe_fault word }
+{
+    if !laid_out(word) {
+        return Some(Fault::NotLaidOut);
+    }
+    output_fault(word)
 }

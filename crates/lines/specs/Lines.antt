@@ -1,8 +1,10 @@
 -- The lines of refusals: document 01, "A refusal prints only REFUSED, number and place in decimal".
-use Rattle.std.specs.Prelude.{ℕ, Bool, true, false, List, ◌++◌}
+use Rattle.std.specs.Prelude.{ℕ, List, ◌++◌}
 use Rattle.words.specs.Paper.{number_of, port_number, refusal}
 use Rattle.words.specs.declared.Refusal.{Refusal}
 use Rattle.words.specs.declared.Witness.{Witness}
+use Rattle.sequence.specs.declared.File.{File}
+use Rattle.sequence.specs.declared.File.TheVariants.{AsJob, AsMapping}
 use Rattle.bits.specs.Bits.{num}
 use Rattle.text.specs.Text.{bytes, labelled}
 use Rattle.words.specs.declared.Fault.TheVariants.{WrongRecipe}
@@ -27,12 +29,12 @@ refused_line r = refusal_text r ++ bytes "\n"
 
 -- ---- the checker's lines: a refusal 1 to 6 says which file is meant, and 10 the port, the operands and the carry
 
-abbrev pub file_name : Bool → List ℕ
-file_name true = bytes " MAPPING\n"
-file_name false = bytes " JOB\n"
+abbrev pub file_name : File → List ℕ
+file_name AsJob = bytes " JOB\n"
+file_name AsMapping = bytes " MAPPING\n"
 
-unfoldable pub refused_file_line : Refusal → Bool → List ℕ
-refused_file_line r mapping = refusal_text r ++ file_name mapping
+unfoldable pub refused_file_line : Refusal → File → List ℕ
+refused_file_line r file = refusal_text r ++ file_name file
 
 unfoldable pub witness_text : Witness → List ℕ
 witness_text v =

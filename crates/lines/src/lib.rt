@@ -2,16 +2,16 @@
 #![tactic(auto)]
 
 ghost use Rattle.std.specs.Prelude.{◌≡◌, ◌+◌, ◌≤◌, ◌++◌, length};
-ghost use Rattle.text.specs.Text.{room};
 ghost use Rattle.lines.specs.Lines as L;
 
+use sequence::File;
 use text::Text;
 use words::{Fault, Refusal, Witness};
 
 // A refusal's number and place.
 #[tactic(auto, unfolding(crate::specs::Lines::refusal_text))]
-pub fn put_refusal(refusal: Refusal, line: &mut Text)
-    requires { length line.old + L.most_refusal_bytes ≤ room }
+pub fn put_refusal<const ROOM: usize>(refusal: Refusal, line: &mut Text<ROOM>)
+    requires { length line.old + L.most_refusal_bytes ≤ ROOM }
     ensures short { length line.new ≤ length line.old + L.most_refusal_bytes }
     ensures text { line.new ≡ line.old ++ L.refusal_text refusal }
 {
@@ -21,8 +21,8 @@ pub fn put_refusal(refusal: Refusal, line: &mut Text)
 
 // A refusal.
 #[tactic(auto, unfolding(crate::specs::Lines::refused_line))]
-pub fn refused_line(refusal: Refusal, line: &mut Text)
-    requires { length line.old + L.most_line_bytes ≤ room }
+pub fn refused_line<const ROOM: usize>(refusal: Refusal, line: &mut Text<ROOM>)
+    requires { length line.old + L.most_line_bytes ≤ ROOM }
     ensures short { length line.new ≤ length line.old + L.most_line_bytes }
     ensures text { line.new ≡ line.old ++ L.refused_line refusal }
 {
@@ -32,23 +32,22 @@ pub fn refused_line(refusal: Refusal, line: &mut Text)
 
 // A refusal of the job or of the mapping.
 #[tactic(auto, unfolding(crate::specs::Lines::refused_file_line))]
-pub fn refused_file_line(refusal: Refusal, mapping: bool, line: &mut Text)
-    requires { length line.old + L.most_line_bytes ≤ room }
+pub fn refused_file_line<const ROOM: usize>(refusal: Refusal, file: File, line: &mut Text<ROOM>)
+    requires { length line.old + L.most_line_bytes ≤ ROOM }
     ensures short { length line.new ≤ length line.old + L.most_line_bytes }
-    ensures text { line.new ≡ line.old ++ L.refused_file_line refusal mapping }
+    ensures text { line.new ≡ line.old ++ L.refused_file_line refusal file }
 {
     put_refusal(refusal, line);
-    if mapping {
-        line.put(b" MAPPING\n");
-    } else {
-        line.put(b" JOB\n");
+    match file {
+        File::AsJob => line.put(b" JOB\n"),
+        File::AsMapping => line.put(b" MAPPING\n"),
     }
 }
 
 // The port, the operands and the carry at which a recipe differs from its source function.
 #[tactic(auto, unfolding(crate::specs::Lines::witness_text))]
-pub fn put_witness(witness: Witness, line: &mut Text)
-    requires { length line.old + L.most_witness_bytes ≤ room }
+pub fn put_witness<const ROOM: usize>(witness: Witness, line: &mut Text<ROOM>)
+    requires { length line.old + L.most_witness_bytes ≤ ROOM }
     ensures short { length line.new ≤ length line.old + L.most_witness_bytes }
     ensures text { line.new ≡ line.old ++ L.witness_text witness }
 {
@@ -60,8 +59,8 @@ pub fn put_witness(witness: Witness, line: &mut Text)
 
 // A wrong recipe: where it differs from its source function.
 #[tactic(auto, unfolding(crate::specs::Lines::wrong_line))]
-pub fn wrong_line(witness: Witness, line: &mut Text)
-    requires { length line.old + L.most_line_bytes ≤ room }
+pub fn wrong_line<const ROOM: usize>(witness: Witness, line: &mut Text<ROOM>)
+    requires { length line.old + L.most_line_bytes ≤ ROOM }
     ensures short { length line.new ≤ length line.old + L.most_line_bytes }
     ensures text { line.new ≡ line.old ++ L.wrong_line witness }
 {

@@ -3,7 +3,8 @@ use mathlib.Core.Path.{◌≡◌, refl, sym}
 use mathlib.Core.List.{List, [], ◌∷◌, ◌++◌, append-nil}
 use Prim.Native.Nat.{ℕ, ◌+◌, ◌≤◌, ◌<◌}
 use native.Mathlib.Omega.{arith}
-use lib.ListN.{length, drop, get_or, length-drop, drop_of_length-le}
+use lib.ListN.{length, drop, take, get_or, length-drop, drop_of_length-le}
+use lib.Seq.{get_or-take, get_or-drop, length-take-le}
 use Rattle.words.specs.Field.{content_of}
 use Rattle.words.proofs.Lists.{drop-next}
 use Rattle.reader.specs.Starts.{bindings_start}
@@ -19,10 +20,15 @@ unfolding mapped_lines
 glue_only w [] h = refl
 glue_only w (v ∷ ws) h = absurd (omega arith)
 
-pub mapped_next : (words : List ℕ) (i : ℕ) → i + 1 < length words
-    → mapped_lines (drop i words) ≡ binding_line (get_or words i 0) ++ mapped_lines (drop (i + 1) words)
-mapped_next words i h =
-    rw (drop-next words i (omega arith)) (binding_first (get_or words i 0) (drop (i + 1) words) (omega (arith, length-drop (i + 1) words)))
+pub mapped_next : (words : List ℕ) (n k : ℕ) → n + 2 ≤ length words → k < length (take n (drop bindings_start words))
+    → mapped_lines (drop (bindings_start + k) words)
+    ≡ binding_line (get_or (take n (drop bindings_start words)) k 0) ++ mapped_lines (drop (bindings_start + (k + 1)) words)
+mapped_next words n k h l =
+    let m : k < n = omega (arith, length-take-le n (drop bindings_start words) (omega (arith, length-drop bindings_start words))) in
+    rw (get_or-take n (drop bindings_start words) k 0 m, get_or-drop bindings_start words k 0) (next (bindings_start + k) (bindings_start + (k + 1)) (omega arith) (omega arith))
+  where
+    next : (i j : ℕ) → i + 1 ≡ j → j < length words → mapped_lines (drop i words) ≡ binding_line (get_or words i 0) ++ mapped_lines (drop j words)
+    next i j e h = rw (sym e) (rw (drop-next words i (omega arith)) (binding_first (get_or words i 0) (drop (i + 1) words) (omega (arith, length-drop (i + 1) words))))
 
 pub mapped_last : (words : List ℕ) (i : ℕ) → i + 1 ≡ length words → mapped_lines (drop i words) ≡ glue_line (content_of (get_or words i 0))
 mapped_last words i h =

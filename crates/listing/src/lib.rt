@@ -2,15 +2,14 @@
 #![tactic(auto)]
 
 ghost use Rattle.std.specs.Prelude.{◌≡◌, ◌+◌, ◌*◌, ◌≤◌, ◌++◌, length};
-ghost use Rattle.text.specs.Text.{room};
 ghost use Rattle.listing.specs.Listing as L;
 
 use text::Text;
 
 // A binding: its source, its target or LV, and its word.
 #[tactic(auto, unfolding(crate::specs::Listing::binding_text, text::specs::Text::hexadecimal))]
-pub fn put_binding(word: u32, text: &mut Text)
-    requires { length text.old + L.most_binding_text ≤ room }
+pub fn put_binding<const ROOM: usize>(word: u32, text: &mut Text<ROOM>)
+    requires { length text.old + L.most_binding_text ≤ ROOM }
     ensures short { length text.new ≤ length text.old + L.most_binding_text }
     ensures text { text.new ≡ text.old ++ L.binding_text word }
 {
@@ -23,8 +22,8 @@ pub fn put_binding(word: u32, text: &mut Text)
 
 // A binding's line.
 #[tactic(auto, unfolding(crate::specs::Listing::binding_line))]
-pub fn binding_line(word: u32, text: &mut Text)
-    requires { length text.old + L.most_binding_bytes ≤ room }
+pub fn binding_line<const ROOM: usize>(word: u32, text: &mut Text<ROOM>)
+    requires { length text.old + L.most_binding_bytes ≤ ROOM }
     ensures short { length text.new ≤ length text.old + L.most_binding_bytes }
     ensures text { text.new ≡ text.old ++ L.binding_line word }
 {
@@ -34,8 +33,8 @@ pub fn binding_line(word: u32, text: &mut Text)
 
 // The glue count.
 #[tactic(auto, unfolding(crate::specs::Listing::glue_line))]
-pub fn glue_line(count: u32, text: &mut Text)
-    requires { length text.old + L.most_glue_bytes ≤ room }
+pub fn glue_line<const ROOM: usize>(count: u32, text: &mut Text<ROOM>)
+    requires { length text.old + L.most_glue_bytes ≤ ROOM }
     ensures short { length text.new ≤ length text.old + L.most_glue_bytes }
     ensures text { text.new ≡ text.old ++ L.glue_line count }
 {
@@ -45,8 +44,8 @@ pub fn glue_line(count: u32, text: &mut Text)
 
 // The bindings of a mapping's words, a line each, and the glue count.
 #[tactic(auto, using(std::proofs::lemmas::List::append_assoc, crate::proofs::Mapped::mapped_next, crate::proofs::Mapped::mapped_last, crate::proofs::Mapped::nothing_put))]
-pub fn put_mapping(words: &[u32], text: &mut Text)
-    requires { length text.old + L.most_binding_bytes * length words.now + L.most_glue_bytes ≤ room }
+pub fn put_mapping<const ROOM: usize>(words: &[u32], text: &mut Text<ROOM>)
+    requires { length text.old + L.most_binding_bytes * length words.now + L.most_glue_bytes ≤ ROOM }
     ensures short { length text.new ≤ length text.old + L.most_binding_bytes * length words.now + L.most_glue_bytes }
     ensures text { text.new ≡ text.old ++ L.mapped_text words.now }
 {
@@ -54,8 +53,8 @@ pub fn put_mapping(words: &[u32], text: &mut Text)
         return;
     }
     let last = words.len() - 1;
-    for i in reader::BINDINGS_START..last {
-        binding_line(words[i], text);
+    for binding in &words[reader::BINDINGS_START..last] {
+        binding_line(*binding, text);
     }
     glue_line(words::content_of(words[last]), text);
 }

@@ -3,17 +3,17 @@ use mathlib.Core.Path.{◌≡◌, refl}
 use mathlib.Core.List.{List}
 use Prim.Native.Nat.{ℕ}
 use Rattle.words.specs.Paper.{refusal}
+use Rattle.words.specs.declared.Fault.TheVariants.{OutOfSequence}
 use Rattle.input.specs.declared.Input.{Input}
-use Rattle.input.specs.Read.{cut_at}
+use Rattle.input.specs.Read.{cut}
 use Rattle.std.specs.Prelude.{Some, Err}
 use Rattle.map_answers.specs.Answers.{job_answer, job_lent}
-use Rattle.words.specs.declared.Fault.TheVariants.{OutOfSequence}
 
-module _ (input : Input) (lent : List ℕ) (place : ℕ) (cut : cut_at input ≡ Some place) where
+module _ (input : Input) (lent : List ℕ) (place : ℕ) (e : cut input ≡ Some (refusal OutOfSequence place)) where
   pub cut-before_all : job_answer input lent ≡ Err (refusal OutOfSequence place)
   unfolding job_answer
-  cut-before_all = rw cut refl
+  cut-before_all = rw e refl
 
   pub cut-writes_nothing : job_lent input lent ≡ lent
   unfolding job_lent
-  cut-writes_nothing = rw cut refl
+  cut-writes_nothing = rw e refl

@@ -1,4 +1,4 @@
--- The words of the mapper's answer are within those lent, so there is room for their lines.
+-- The words of the mapper's answer are within those lent.
 use mathlib.Core.Path.{◌≡◌, sym, subst}
 use mathlib.Core.List.{List}
 use Prim.Native.Nat.{ℕ, ◌≤◌}
@@ -14,10 +14,9 @@ use Rattle.std.specs.Prelude.{Option, Some, None, Result, Ok, Err}
 use Rattle.reader.specs.declared.Job.{Job}
 use Rattle.writer.specs.Write.{words_needed, written_of}
 use Rattle.input.specs.declared.Input.{Input}
-use Rattle.input.specs.Read.{cut_at}
+use Rattle.input.specs.Read.{cut}
 use Rattle.mapper.specs.Mapping.{choice_of, answer_to, answer_for, answer_of}
 use Rattle.map_answers.specs.Answers.{words_written, answer_at, job_answer}
-use Rattle.map_answers.specs.Asked.{Room, RoomFor}
 use Rattle.words.specs.declared.Fault.TheVariants.{TooFewWords}
 
 -- ---- no more words are written than were lent
@@ -41,20 +40,16 @@ answer_within : (ws lent : List ℕ) → words_written (answer_of ws lent) ≤ l
 unfolding answer_of
 answer_within ws lent = read_within ws (job_of ws) lent
 
-answer_at_within : (cut : Option ℕ) (job lent : List ℕ) → words_written (answer_at cut job lent) ≤ length lent
-answer_at_within (Some place) job lent = omega arith
+answer_at_within : (c : Option Refusal) (job lent : List ℕ) → words_written (answer_at c job lent) ≤ length lent
+answer_at_within (Some r) job lent = omega arith
 answer_at_within None job lent = answer_within job lent
 
 job_within : (input : Input) (lent : List ℕ) → words_written (job_answer input lent) ≤ length lent
 unfolding job_answer
-job_within input lent = answer_at_within (cut_at input) input.words lent
+job_within input lent = answer_at_within (cut input) input.words lent
 
-pub room_for : (lent after text : List ℕ) (input : Input) (a : Result ℕ Refusal) → a ≡ job_answer input lent → length after ≡ length lent
-    → Room lent text → RoomFor a after text
-room_for lent after text input a e l h =
-    record {
-      enough = omega arith;
-      within =
-          subst (λ (x : Result ℕ Refusal). words_written x ≤ length after) (sym e)
-          (subst (λ (n : ℕ). words_written (job_answer input lent) ≤ n) (sym l) (job_within input lent));
-    }
+pub words_within : (lent after : List ℕ) (input : Input) (a : Result ℕ Refusal) → a ≡ job_answer input lent → length after ≡ length lent
+    → words_written a ≤ length after
+words_within lent after input a e l =
+    subst (λ (x : Result ℕ Refusal). words_written x ≤ length after) (sym e)
+    (subst (λ (n : ℕ). words_written (job_answer input lent) ≤ n) (sym l) (job_within input lent))

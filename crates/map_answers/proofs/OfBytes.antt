@@ -50,8 +50,8 @@ unfolding job_answer job_lent job_text words_text
 says_of_the_bytes file lent = by_rest (eqb (length file % 4) 0)
   where
     by_rest : (whole : Bool)
-        → map_text (answer_at (if whole then None else Some (length file / 4)) (words_of (take kept_bytes file)) lent)
-        (lent_at (if whole then None else Some (length file / 4)) (words_of (take kept_bytes file)) lent)
+        → map_text (answer_at (if whole then None else Some (refusal OutOfSequence (length file / 4))) (words_of (take kept_bytes file)) lent)
+        (lent_at (if whole then None else Some (refusal OutOfSequence (length file / 4))) (words_of (take kept_bytes file)) lent)
         ≡ (if not whole then map_text (Err (refusal OutOfSequence (length file / 4))) lent else words_text (words_of file) lent)
     by_rest false = refl
     by_rest true = kept_enough file lent (ltb kept_bytes (length file)) refl

@@ -8,7 +8,7 @@ ghost use Rattle.map_answers.specs.Asked as Q;
 use console::Failed;
 use input::Input;
 use text::Text;
-use words::{Fault, Refusal};
+use words::Refusal;
 
 // The answer to a job that was read: a last word cut short comes before all else.
 #[tactic(auto, unfolding(crate::specs::Answers::job_answer, crate::specs::Answers::job_lent))]
@@ -16,18 +16,20 @@ fn map_file(input: &Input, lent: &mut [u32]) -> Result<usize, Refusal>
     ensures answer { result ≡ S.job_answer input.now lent.old }
     ensures written { lent.new ≡ S.job_lent input.now lent.old }
 {
-    match input.cut_at() {
-        Some(place) => Err(Refusal {
-            fault: Fault::OutOfSequence,
-            place,
-        }),
-        None => mapper::map(input.words(), lent),
+    if let Some(refusal) = input.cut() {
+        return Err(refusal);
     }
+    mapper::map(input.words(), lent)
 }
 
 // The text of the mapper's answer, with the words that it wrote; and how many they are.
-fn put_answer(answer: Result<usize, Refusal>, lent: &[u32], text: &mut Text) -> usize
-    requires { Q.RoomFor answer lent.now text.old }
+// Kept: the 0 of a refusal is a count, since no words were written then; an `Option` would say no more.
+fn put_answer<const ROOM: usize>(
+    answer: Result<usize, Refusal>,
+    lent: &[u32],
+    text: &mut Text<ROOM>,
+) -> usize
+    requires { Q.RoomFor ROOM answer lent.now text.old }
     ensures fits { result ≤ length lent.now }
     ensures said { S.SaysAnswer answer lent.now text.old text.new result }
 {
@@ -44,13 +46,13 @@ fn put_answer(answer: Result<usize, Refusal>, lent: &[u32], text: &mut Text) -> 
 }
 
 // What map_job says of its input, if it could be read. The mapping is written into lent words, and how many were written is answered.
-#[tactic(auto, using(crate::proofs::Mapped::room_for))]
-pub fn map_input(
+#[tactic(auto, using(crate::proofs::Mapped::words_within))]
+pub fn map_input<const ROOM: usize>(
     input: Result<Input, Failed>,
     lent: &mut [u32],
-    text: &mut Text,
+    text: &mut Text<ROOM>,
 ) -> Result<usize, Failed>
-    requires { Q.Room lent.old text.old }
+    requires { Q.Room ROOM lent.old text.old }
     ensures fits { IfOk result (λ words. words ≤ length lent.old) }
     ensures said { S.SaysMapped input lent.old lent.new text.old text.new result }
 {

@@ -3,18 +3,18 @@
 #![tactic(auto)]
 
 use sequence::MOST_MAPPING_WORDS;
-use text::Text;
+use text::Said;
 
 // Maps the job, and saves a mapping that was written, if a file is named for it.
 fn map(rt: &HostRuntime) {
     let input = input::read_words(rt, &mut rt.stdin(), b"standard input");
     // Kept: lent words and how many were written, as document 01 has a mapping written.
     let mut lent = [0u32; MOST_MAPPING_WORDS];
-    let mut text = Text::new();
+    let mut text = Said::new();
     let Ok(count) = map_answers::map_input(input, &mut lent, &mut text) else {
         return;
     };
-    console::print(rt, text.as_bytes());
+    let _ = console::print(rt, text.as_bytes());
     if count == 0 {
         return;
     }

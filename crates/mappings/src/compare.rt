@@ -1,19 +1,19 @@
 // The mapper beside the second account of it, on random jobs.
 use crate::jobs::BOOK_BIT;
-use crate::random::{SHAPES, Shape, job_of};
+use crate::random::{Shape, job_of};
 use book::BOOK;
-use reference::answer::{Refusal, Subject, refused};
+use reference::answer::Subject;
 use reference::trial::next;
 use rulings::choosing::map;
 use testing::say;
-use testing::tally::{Numbers, no_numbers, noted};
+use testing::tally::{Tally, more};
 use testing::words::{LENT, at, lent_holds};
 
 // A series of random jobs: eight widths, how many jobs of each shape, and the bits of the header that are set besides the width.
 struct Series {
     name: &'static [u8],
     widths: [u32; 8],
-    jobs: [u32; 6],
+    jobs: [(Shape, u32); 6],
     asked: u32,
 }
 
@@ -22,10 +22,24 @@ const TRIED: [u32; 8] = [1, 2, 2, 3, 3, 4, 4, 4];
 
 const KNOWN: [u32; 8] = [5, 8, 16, 31, 32, 33, 63, 64];
 
-const JOBS: [u32; 6] = [1600, 800, 40, 400, 80, 400];
+const JOBS: [(Shape, u32); 6] = [
+    (Shape::SomeRules, 1600),
+    (Shape::Prices0, 800),
+    (Shape::NoRules, 40),
+    (Shape::AllSources, 400),
+    (Shape::ManyRules, 80),
+    (Shape::BitTurned, 400),
+];
 
 // Of the jobs that ask for the book, which take longer and are mapped without rules too.
-const BOOK_JOBS: [u32; 6] = [400, 200, 200, 100, 80, 200];
+const BOOK_JOBS: [(Shape, u32); 6] = [
+    (Shape::SomeRules, 400),
+    (Shape::Prices0, 200),
+    (Shape::NoRules, 200),
+    (Shape::AllSources, 100),
+    (Shape::ManyRules, 80),
+    (Shape::BitTurned, 200),
+];
 
 const SERIES: [Series; 4] = [
     Series {
@@ -61,16 +75,9 @@ struct Outcome {
     same: bool,
 }
 
-fn of_answer(answer: Result<usize, words::Refusal>) -> Result<usize, Refusal> {
-    match answer {
-        Ok(size) => Ok(size),
-        Err(refusal) => Err(told::refusal_of(Subject::Job, refusal)),
-    }
-}
-
 // A job mapped into lent words.
 fn outcome_in(job: &[u32], lent: &mut [u32]) -> Outcome {
-    let told = of_answer(mapper::map(job, lent));
+    let told = mapper::map(job, lent).map_err(|refusal| told::refusal_of(Subject::Job, refusal));
     let same = match map(job, &BOOK, lent.len()) {
         Ok(mapping) => {
             let words = mapping.written();
@@ -88,48 +95,63 @@ fn outcome_of(job: &[u32], size: usize) -> Outcome {
     outcome_in(job, &mut lent[..size.min(32)])
 }
 
-// A job more. The first that differs is written out. The numbers 1 to 6, 12 and 23 count as 1, 2 and 4.
-fn counted(rt: &HostRuntime, all: Numbers, job: &[u32], outcome: Outcome) -> Numbers {
-    let tally = all.tally;
-    if !outcome.same & (tally.differ == 0) {
-        say::words(rt, b"differs:", job);
-        say::text(rt, b"\n");
+// The jobs compared; how many were mapped, and how many were refused with 12, with 23 and with 1 to 6.
+#[derive(Clone, Copy, Default)]
+struct Counts {
+    tally: Tally,
+    mapped: u64,
+    unmappable: u64,
+    too_few_words: u64,
+    ill_formed: u64,
+}
+
+impl Counts {
+    // A job more. The first that differs is written out.
+    fn count(&mut self, rt: &HostRuntime, job: &[u32], outcome: Outcome) {
+        self.tally.count_or(outcome.same, || {
+            say::words(rt, b"differs:", job);
+            say::text(rt, b"\n");
+        });
+        match outcome.number {
+            None => self.mapped = more(self.mapped, true),
+            Some(12) => self.unmappable = more(self.unmappable, true),
+            Some(23) => self.too_few_words = more(self.too_few_words, true),
+            Some(1..=6) => self.ill_formed = more(self.ill_formed, true),
+            Some(_) => {}
+        }
     }
-    let number = outcome.number.map(|number| (number % 32 + 5) / 6);
-    noted(all, number, outcome.same)
 }
 
 // The random jobs of a shape in a series. Half of them are lent more words than any mapping needs.
-fn random_jobs(rt: &HostRuntime, series: &Series, shape: Shape, count: u32) -> Numbers {
+fn random_jobs(rt: &HostRuntime, series: &Series, shape: Shape, count: u32) -> Counts {
     let widths = series.widths;
-    let mut all = no_numbers();
+    let mut all = Counts::default();
     let mut random = next(0x9e37_79b9_7f4a_7c15 ^ (shape as u64) ^ ((at(&widths, 0) as u64) << 8));
     for i in 0..count {
         let n = widths[(i % 8) as usize];
         let words = job_of(shape, n, series.asked, random);
         let job = words.written();
-        all = counted(rt, all, job, outcome_of(job, (random % 64) as usize));
+        all.count(rt, job, outcome_of(job, (random % 64) as usize));
         random = next(random);
     }
     all
 }
 
-fn report_shape(rt: &HostRuntime, name: &[u8], shape: &[u8], all: Numbers) {
-    let tally = all.tally;
-    let by = all.by;
-    say::text(rt, name);
-    say::text(rt, shape);
-    let _ = println!(rt;
-        ": {} jobs, {} mapped, {} refused 12, {} refused 23, {} refused 1 to 6, {} differ",
-        tally.compared, by[0], by[2], by[4], by[1], tally.differ
-    );
-}
-
 // A line for each shape.
 fn report_series(rt: &HostRuntime, series: &Series) {
-    for ((shape, name), count) in SHAPES.iter().zip(&series.jobs) {
-        let all = random_jobs(rt, series, *shape, *count);
-        report_shape(rt, series.name, name, all);
+    for (shape, count) in series.jobs {
+        let all = random_jobs(rt, series, shape, count);
+        say::text(rt, series.name);
+        let _ = println!(rt;
+            "{}: {} jobs, {} mapped, {} refused 12, {} refused 23, {} refused 1 to 6, {} differ",
+            shape.name(),
+            all.tally.compared,
+            all.mapped,
+            all.unmappable,
+            all.too_few_words,
+            all.ill_formed,
+            all.tally.differ
+        );
     }
 }
 

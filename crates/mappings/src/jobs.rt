@@ -1,4 +1,5 @@
 // Jobs whose mapping is known, besides document 01's.
+use testing::kinds::Kind;
 use testing::words::word_of;
 
 // The bit of a job's header that asks for the book.
@@ -51,9 +52,9 @@ pub fn largest() -> [u32; 568] {
     words[1] = 0x20FFFFFF;
     for function in 1..28 {
         let place = function as usize;
-        words[place + 1] = word_of(3, function);
-        words[place + 28] = word_of(4, function);
-        words[place + 540] = word_of(5, function);
+        words[place + 1] = word_of(Kind::Source, function);
+        words[place + 28] = word_of(Kind::Target, function);
+        words[place + 540] = word_of(Kind::Rule, function);
     }
     words
 }

@@ -3,13 +3,13 @@
 use reference::recipe::fields_of;
 use reference::trial::next;
 use rulings::known::known_rules;
-use std::num::{wrapping_add_usize, wrapping_sub_usize};
+use testing::kinds::Kind;
 use testing::words::{Words, at, content, word_of};
 
 // No job of these has more words; the largest has a rule too many.
 pub type JobWords = Words<569>;
 
-// What a job is like. The seed of its jobs is its place among these.
+// What a job is like. The seed of its jobs is its place among the shapes.
 #[derive(Clone, Copy, PartialEq, Eq)]
 pub enum Shape {
     SomeRules,
@@ -20,14 +20,18 @@ pub enum Shape {
     BitTurned,
 }
 
-pub const SHAPES: [(Shape, &[u8]); 6] = [
-    (Shape::SomeRules, b"some rules"),
-    (Shape::Prices0, b"prices 0, where all rules tie"),
-    (Shape::NoRules, b"no rules"),
-    (Shape::AllSources, b"27 sources"),
-    (Shape::ManyRules, b"512 or 513 rules"),
-    (Shape::BitTurned, b"a bit turned"),
-];
+impl Shape {
+    pub fn name(self) -> &'static str {
+        match self {
+            Shape::SomeRules => "some rules",
+            Shape::Prices0 => "prices 0, where all rules tie",
+            Shape::NoRules => "no rules",
+            Shape::AllSources => "27 sources",
+            Shape::ManyRules => "512 or 513 rules",
+            Shape::BitTurned => "a bit turned",
+        }
+    }
+}
 
 // Prices at which some cost nothing, or as much as can be; and document 01's.
 const PRICES: [u32; 8] = [
@@ -82,7 +86,7 @@ fn set_from(x: u64) -> u64 {
 }
 
 // Words of a kind for the functions of a set.
-fn push_table(words: &mut JobWords, kind: u32, set: u64) {
+fn push_table(words: &mut JobWords, kind: Kind, set: u64) {
     let mut rest = set;
     for function in 1..28 {
         if rest % 2 == 1 {
@@ -94,7 +98,7 @@ fn push_table(words: &mut JobWords, kind: u32, set: u64) {
 
 // The function of a job's source, in turn.
 fn source_at(words: &[u32], sources: usize, i: usize) -> u32 {
-    content(at(words, wrapping_add_usize(below(i as u64, sources), 2)))
+    content(at(words, below(i as u64, sources).wrapping_add(2)))
 }
 
 // So many rules.
@@ -115,7 +119,7 @@ fn rule_count(shape: Shape, sources: usize, x: u64) -> usize {
         Shape::ManyRules => 512 + (x % 8 / 7) as usize,
         _ => {
             let some = sources % 32 * 3;
-            wrapping_add_usize(some, below(x, some))
+            some.wrapping_add(below(x, some))
         }
     }
 }
@@ -132,7 +136,7 @@ fn prices_from(shape: Shape, x: u64) -> u32 {
 
 // Turns a bit of one of so many words, but not of the header, where b.
 fn turn_bit(words: &mut JobWords, end: usize, b: bool, x: u64) {
-    let place = wrapping_add_usize(below(x / 32, wrapping_sub_usize(end, 1)), 1);
+    let place = below(x / 32, end.wrapping_sub(1)).wrapping_add(1);
     let word = at(words.written(), place) ^ ((b as u32) << (x % 32));
     words.put(place, word);
 }
@@ -141,22 +145,22 @@ fn turn_bit(words: &mut JobWords, end: usize, b: bool, x: u64) {
 fn begun(shape: Shape, header: u32, x: u64) -> JobWords {
     let mut words = Words::empty();
     words.push(header);
-    words.push(0x2000_0000 | prices_from(shape, next(x)));
+    words.push(Kind::Prices.word(prices_from(shape, next(x))));
     let set = if shape == Shape::AllSources {
         ALL_FUNCTIONS
     } else {
         a_quarter(x) | (1u64 << (x % 27))
     };
-    push_table(&mut words, 3, set);
+    push_table(&mut words, Kind::Source, set);
     words
 }
 
 // A job of a shape at a width, and the bits of its header that are set besides. Above width 4 a turned bit is none of the rules',
 // whose rightness is known.
 pub fn job_of(shape: Shape, n: u32, asked: u32, random: u64) -> JobWords {
-    let mut words = begun(shape, 0x1000_0000 | n | asked, next(random));
-    let sources = wrapping_sub_usize(words.written().len(), 2);
-    push_table(&mut words, 4, set_from(random));
+    let mut words = begun(shape, Kind::Header.word(n | asked), next(random));
+    let sources = words.written().len().wrapping_sub(2);
+    push_table(&mut words, Kind::Target, set_from(random));
     let rules = words.written().len();
     // Another sequence than the one from which the jobs after this one come.
     let x = next(random ^ 0x5555_5555_5555_5555);

@@ -2,21 +2,22 @@
 // the end of the line is a comment.
 #![tactic(auto)]
 
-// Writes a word's bytes, and answers whether it could.
-fn write_word(rt: &HostRuntime, word: u32) -> bool {
+use console::Failed;
+
+// Writes a word's bytes.
+fn write_word(rt: &HostRuntime, word: u32) -> Result<(), Failed> {
     let bytes = files::bytes_of(word);
     console::print(rt, &bytes)
 }
 
-// Writes each word, until the text is over or a word cannot be written.
+// Writes each word, until the text is over.
 #[tactic(auto, unfolding(word_text::specs::Next::Forward))]
-fn pack(rt: &HostRuntime) {
+fn pack(rt: &HostRuntime) -> Result<(), Failed> {
     let mut text = word_text::unread();
     while let Some(word) = text.next(rt, b"pack_words") {
-        if !write_word(rt, word) {
-            return;
-        }
+        write_word(rt, word)?;
     }
+    Ok(())
 }
 
 fn main(rt: HostRuntime) {
@@ -32,6 +33,6 @@ fn main(rt: HostRuntime) {
         example: echo '10000010 20010103 # width 16, prices' | pack_words > words\n",
     );
     if run {
-        pack(&rt);
+        let _ = pack(&rt);
     }
 }

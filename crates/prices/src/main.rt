@@ -46,13 +46,13 @@ fn try_many(tally: &mut Tally, words: &[u32]) {
 }
 
 fn at_many(words: &[u32]) -> Tally {
-    let mut tally = Tally::none();
+    let mut tally = Tally::default();
     try_many(&mut tally, words);
     tally
 }
 
 fn single_codes() -> Tally {
-    let mut tally = Tally::none();
+    let mut tally = Tally::default();
     for word in &SINGLE {
         try_many(&mut tally, &[*word]);
     }
@@ -61,7 +61,7 @@ fn single_codes() -> Tally {
 
 // One code with each other.
 fn pairs() -> Tally {
-    let mut tally = Tally::none();
+    let mut tally = Tally::default();
     let mut x = SEED;
     for i in 0..3136 {
         tally.count(agrees(&[SINGLE[i / 56], SINGLE[i % 56]], x));
@@ -91,7 +91,7 @@ fn try_grown(tally: &mut Tally, words: &[u32], sets: usize, costs: Costs) {
 }
 
 fn random_sets() -> Tally {
-    let mut tally = Tally::none();
+    let mut tally = Tally::default();
     let mut x = SEED;
     for _ in 0..20000 {
         let y = next(x);

@@ -2,23 +2,23 @@
 #![tactic(auto)]
 
 use book::Rule;
-use text::Text;
+use console::Failed;
+use text::Said;
 
-// Prints the line of a rule, and answers whether it could.
-fn print_rule(rt: &HostRuntime, rule: Rule) -> bool {
-    let mut line = Text::new();
+// Prints the line of a rule.
+fn print_rule(rt: &HostRuntime, rule: Rule) -> Result<(), Failed> {
+    let mut line = Said::new();
     book_lines::put_rule(rule, &mut line);
     console::print(rt, line.as_bytes())
 }
 
-// Prints the rules in the book's order, until a line cannot be printed.
+// Prints the rules in the book's order.
 #[tactic(auto, unfolding(book::specs::Book::book))]
-fn print_all(rt: &HostRuntime) {
+fn print_all(rt: &HostRuntime) -> Result<(), Failed> {
     for index in 0..book::SIZE {
-        if !print_rule(rt, Rule { index }) {
-            return;
-        }
+        print_rule(rt, Rule { index })?;
     }
+    Ok(())
 }
 
 fn main(rt: HostRuntime) {
@@ -34,6 +34,6 @@ fn main(rt: HostRuntime) {
         example: print_book | cut -d ' ' -f 3 | judge_rule all\n",
     );
     if run {
-        print_all(&rt);
+        let _ = print_all(&rt);
     }
 }

@@ -3,7 +3,7 @@
 
 use accounts::reading::{File, JobFacts, MappingFacts, read_job, read_mapping};
 use reader::{Job, Mapping};
-use reference::answer::{Refusal, Subject, refused};
+use reference::answer::{Refusal, Subject};
 use testing::say;
 use testing::tally::{Numbers, noted};
 
@@ -25,21 +25,18 @@ fn facts_of(job: Job) -> JobFacts {
 }
 
 fn from_job(answer: Result<Job, words::Refusal>) -> Result<JobFacts, Refusal> {
-    match answer {
-        Err(refusal) => { Err(told::refusal_of(Subject::Job, refusal)) }
-        Ok(job) => Ok(facts_of(job)),
-    }
+    answer
+        .map(facts_of)
+        .map_err(|refusal| told::refusal_of(Subject::Job, refusal))
 }
 
 fn from_mapping(answer: Result<Mapping, words::Refusal>) -> Result<MappingFacts, Refusal> {
-    match answer {
-        Err(refusal) => { Err(told::refusal_of(Subject::Mapping, refusal)) }
-        Ok(m) => Ok(MappingFacts {
-            width: m.width,
-            bindings: m.bindings,
-            glue: m.glue,
-        }),
-    }
+    let mapping = answer.map_err(|refusal| told::refusal_of(Subject::Mapping, refusal))?;
+    Ok(MappingFacts {
+        width: mapping.width,
+        bindings: mapping.bindings,
+        glue: mapping.glue,
+    })
 }
 
 // The refusal of the library's reader, and whether the second one refuses the same, or finds the same facts.

@@ -3,11 +3,11 @@ use crate::files::FileWords;
 use crate::random::{draw, random_file, random_word};
 use accounts::reading::File;
 use readers::compare;
-use std::num::wrapping_sub_usize;
-use testing::tally::{Numbers, no_numbers};
+use testing::tally::Numbers;
 use testing::words::at;
 
 // Some word of a kind.
+// Kept: the kind by number, since it is any of the sixteen.
 fn any_word(state: &mut u64) -> u32 {
     let kind = draw(state, 16);
     let function = draw(state, 30);
@@ -52,7 +52,7 @@ fn draw_index(state: &mut u64, n: usize) -> usize {
         return any % 6;
     }
     if near == 1 {
-        return wrapping_sub_usize(n, 1 + any % 6);
+        return n.wrapping_sub(1 + any % 6);
     }
     any % n
 }
@@ -69,7 +69,7 @@ fn damage_some(words: &mut FileWords, state: &mut u64) {
 // Random files, each damaged up to three times. The seed is fixed.
 pub fn damaged_files(file: File, files: u32) -> Numbers {
     let mut state = 0x2545_f491_4f6c_dd1d;
-    let mut all = no_numbers();
+    let mut all = Numbers::default();
     for _ in 0..files {
         let mut words = random_file(file, &mut state);
         damage_some(&mut words, &mut state);

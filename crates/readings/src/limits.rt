@@ -1,88 +1,81 @@
 // Files just within and just past each limit, and words of which two refusals hold.
-use crate::files::plain;
+use crate::files::Sizes::{JobOf, MappingOf};
+use crate::files::{Sizes, plain};
 use accounts::reading::File;
 use accounts::reading::File::{Job, Mapping};
 use readers::{Said, compare, report};
-use testing::tally::{Numbers, no_numbers};
+use testing::tally::Numbers;
 
-// A file of so many words: how many sources, or bindings, targets and rules; how many words are read, if not just these, with 0 behind
-// them; and what is said of it.
-type Counted = ([usize; 3], Option<usize>, Said);
+// A file of these sizes; how many words are read, if not just its own, with 0 behind them; and what is said of it.
+type Counted = (Sizes, Option<usize>, Said);
 
 struct Files {
     name: &'static [u8],
-    file: File,
     files: &'static [Counted],
 }
 
 const FILES: [Files; 6] = [
     Files {
         name: b"0 and 1, 27 and 28 sources",
-        file: Job,
         files: &[
-            ([0, 0, 0], None, Err((2, 2))),
-            ([0, 1, 0], None, Err((2, 2))),
-            ([1, 0, 0], None, Ok(())),
-            ([1, 1, 1], None, Ok(())),
-            ([27, 0, 0], None, Ok(())),
-            ([27, 27, 0], None, Ok(())),
-            ([28, 0, 0], None, Err((2, 29))),
-            ([28, 27, 9], None, Err((2, 29))),
+            (JobOf(0, 0, 0), None, Err((2, 2))),
+            (JobOf(0, 1, 0), None, Err((2, 2))),
+            (JobOf(1, 0, 0), None, Ok(())),
+            (JobOf(1, 1, 1), None, Ok(())),
+            (JobOf(27, 0, 0), None, Ok(())),
+            (JobOf(27, 27, 0), None, Ok(())),
+            (JobOf(28, 0, 0), None, Err((2, 29))),
+            (JobOf(28, 27, 9), None, Err((2, 29))),
         ],
     },
     Files {
         name: b"27 and 28 targets",
-        file: Job,
         files: &[
-            ([1, 0, 1], None, Ok(())),
-            ([1, 27, 1], None, Ok(())),
-            ([1, 28, 0], None, Err((2, 30))),
-            ([27, 28, 9], None, Err((2, 56))),
+            (JobOf(1, 0, 1), None, Ok(())),
+            (JobOf(1, 27, 1), None, Ok(())),
+            (JobOf(1, 28, 0), None, Err((2, 30))),
+            (JobOf(27, 28, 9), None, Err((2, 56))),
         ],
     },
     Files {
         name: b"512 and 513 rules",
-        file: Job,
         files: &[
-            ([1, 0, 512], None, Ok(())),
-            ([27, 26, 512], None, Ok(())),
-            ([1, 0, 513], None, Err((2, 515))),
-            ([27, 26, 513], None, Err((2, 567))),
+            (JobOf(1, 0, 512), None, Ok(())),
+            (JobOf(27, 26, 512), None, Ok(())),
+            (JobOf(1, 0, 513), None, Err((2, 515))),
+            (JobOf(27, 26, 513), None, Err((2, 567))),
         ],
     },
     Files {
         name: b"0, 568 and 569 words of a job",
-        file: Job,
         files: &[
-            ([27, 27, 512], None, Ok(())),
-            ([27, 27, 513], None, Err((1, 0))),
-            ([28, 27, 512], None, Err((1, 0))),
-            ([27, 27, 540], None, Err((1, 0))),
-            ([0, 0, 0], Some(0), Err((1, 0))),
+            (JobOf(27, 27, 512), None, Ok(())),
+            (JobOf(27, 27, 513), None, Err((1, 0))),
+            (JobOf(28, 27, 512), None, Err((1, 0))),
+            (JobOf(27, 27, 540), None, Err((1, 0))),
+            (JobOf(0, 0, 0), Some(0), Err((1, 0))),
         ],
     },
     Files {
         name: b"0, 27 and 28 bindings, the glue count last",
-        file: Mapping,
         files: &[
-            ([0, 0, 0], Some(2), Ok(())),
-            ([27, 0, 0], Some(29), Ok(())),
-            ([0, 0, 0], Some(1), Err((2, 1))),
-            ([27, 0, 0], Some(28), Err((2, 28))),
-            ([28, 0, 0], Some(29), Err((2, 28))),
-            ([28, 0, 0], Some(28), Err((2, 28))),
-            ([0, 0, 0], Some(3), Err((2, 2))),
-            ([26, 0, 0], Some(29), Err((2, 28))),
+            (MappingOf(0), Some(2), Ok(())),
+            (MappingOf(27), Some(29), Ok(())),
+            (MappingOf(0), Some(1), Err((2, 1))),
+            (MappingOf(27), Some(28), Err((2, 28))),
+            (MappingOf(28), Some(29), Err((2, 28))),
+            (MappingOf(28), Some(28), Err((2, 28))),
+            (MappingOf(0), Some(3), Err((2, 2))),
+            (MappingOf(26), Some(29), Err((2, 28))),
         ],
     },
     Files {
         name: b"0, 29 and 30 words of a mapping",
-        file: Mapping,
         files: &[
-            ([27, 0, 0], Some(30), Err((1, 0))),
-            ([28, 0, 0], Some(30), Err((1, 0))),
-            ([0, 0, 0], Some(600), Err((1, 0))),
-            ([0, 0, 0], Some(0), Err((1, 0))),
+            (MappingOf(27), Some(30), Err((1, 0))),
+            (MappingOf(28), Some(30), Err((1, 0))),
+            (MappingOf(0), Some(600), Err((1, 0))),
+            (MappingOf(0), Some(0), Err((1, 0))),
         ],
     },
 ];
@@ -160,19 +153,23 @@ const CHANGES: [(&[u8], &[Change]); 5] = [
     ),
 ];
 
-fn with_file(all: Numbers, file: File, counted: Counted) -> Numbers {
+fn with_file(all: Numbers, counted: Counted) -> Numbers {
     let (sizes, read, said) = counted;
-    let mut words = plain(file, sizes);
+    let mut words = plain(sizes);
     if let Some(n) = read {
         words.resize(n);
     }
-    compare(all, file, words.written(), Some(said))
+    compare(all, sizes.file(), words.written(), Some(said))
 }
 
 // In a job of 3 sources, 3 targets and 3 rules, or a mapping of 3 bindings.
 fn with_change(all: Numbers, change: Change) -> Numbers {
     let (file, place, refused, word) = change;
-    let mut words = plain(file, [3, 3, 3]);
+    let sizes = match file {
+        Job => JobOf(3, 3, 3),
+        Mapping => MappingOf(3),
+    };
+    let mut words = plain(sizes);
     words.put(place, word);
     let said = match refused {
         Some(number) => Err((number, place)),
@@ -181,16 +178,16 @@ fn with_change(all: Numbers, change: Change) -> Numbers {
     compare(all, file, words.written(), Some(said))
 }
 
-fn with_files(file: File, files: &[Counted]) -> Numbers {
-    let mut all = no_numbers();
+fn with_files(files: &[Counted]) -> Numbers {
+    let mut all = Numbers::default();
     for counted in files {
-        all = with_file(all, file, *counted);
+        all = with_file(all, *counted);
     }
     all
 }
 
 fn with_changes(changes: &[Change]) -> Numbers {
-    let mut all = no_numbers();
+    let mut all = Numbers::default();
     for change in changes {
         all = with_change(all, *change);
     }
@@ -199,7 +196,7 @@ fn with_changes(changes: &[Change]) -> Numbers {
 
 pub fn report_sizes(rt: &HostRuntime) {
     for group in &FILES {
-        report(rt, group.name, with_files(group.file, group.files));
+        report(rt, group.name, with_files(group.files));
     }
 }
 

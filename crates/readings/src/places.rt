@@ -1,10 +1,10 @@
 // Each refusal at every place where it can be met, and every kind of word at every place.
-use crate::files::{FileWords, plain};
+use crate::files::{FileWords, Sizes, plain};
 use accounts::reading::File;
 use accounts::reading::File::{Job, Mapping};
 use readers::{Said, compare, report};
-use std::num::wrapping_sub_usize;
-use testing::tally::{Numbers, no_numbers};
+use testing::kinds::{Kind, kind_of};
+use testing::tally::Numbers;
 use testing::words::{at, first, word_of};
 
 // How a word is spoilt.
@@ -39,7 +39,7 @@ impl Spoil {
         match self {
             Spoil::Kind => 0xf000_0000 | word,
             Spoil::Layout => {
-                if word >> 28 == 2 {
+                if kind_of(word) == Some(Kind::Prices) {
                     word | 0x0100_0000
                 } else {
                     word & 0xf000_0000
@@ -133,10 +133,10 @@ const GROUPS: [(&[u8], File, Done); 16] = [
 // A file of 17 words: 5 sources, 5 targets and 5 rules, or 15 bindings.
 fn seventeen(file: File) -> FileWords {
     let sizes = match file {
-        Job => [5, 5, 5],
-        Mapping => [15, 0, 0],
+        Job => Sizes::JobOf(5, 5, 5),
+        Mapping => Sizes::MappingOf(15),
     };
-    plain(file, sizes)
+    plain(sizes)
 }
 
 // The word that a file has at an index.
@@ -153,14 +153,14 @@ fn instead(all: Numbers, file: File, place: usize, word: u32, said: Option<Said>
 }
 
 fn spoilt_at(all: Numbers, file: File, place: usize, spoil: Spoil) -> Numbers {
-    let before = word_there(file, wrapping_sub_usize(place, 1));
+    let before = word_there(file, place.wrapping_sub(1));
     let word = spoil.word(word_there(file, place), before);
     instead(all, file, place, word, Some(Err((spoil.number(), place))))
 }
 
 // A word spoilt at each of a set of places, by bits.
 fn spoilt(file: File, places: u32, spoil: Spoil) -> Numbers {
-    let mut all = no_numbers();
+    let mut all = Numbers::default();
     for place in 0..17usize {
         if (places >> place) % 2 == 1 {
             all = spoilt_at(all, file, place, spoil);
@@ -172,7 +172,7 @@ fn spoilt(file: File, places: u32, spoil: Spoil) -> Numbers {
 // The file cut short after each of its words.
 fn cuts(file: File) -> Numbers {
     let words = seventeen(file);
-    let mut all = no_numbers();
+    let mut all = Numbers::default();
     for n in 1..17 {
         all = compare(all, file, first(words.written(), n), None);
     }
@@ -187,9 +187,10 @@ fn inserted(all: Numbers, file: File, place: usize, word: u32) -> Numbers {
 }
 
 // A word of a kind at an index, instead of the one there and before it: with what stands there, or as each kind can have it.
+// Kept: the kind by number, since it is each of the sixteen, of which nine are of no kind.
 fn with_kind(all: Numbers, file: File, place: usize, kind: u32) -> Numbers {
     let mut all = all;
-    for content in [word_there(file, place), 27, word_of(5, 27)] {
+    for content in [word_there(file, place), 27, word_of(Kind::Rule, 27)] {
         let word = (kind << 28) | (content & 0x0fff_ffff);
         all = instead(all, file, place, word, None);
         all = inserted(all, file, place, word);
@@ -207,7 +208,7 @@ fn with_each_kind(all: Numbers, file: File, place: usize) -> Numbers {
 
 // The last of the places is past the end.
 fn every_kind(file: File) -> Numbers {
-    let mut all = no_numbers();
+    let mut all = Numbers::default();
     for place in 0..18 {
         all = with_each_kind(all, file, place);
     }
@@ -227,7 +228,7 @@ fn said_of_turned(bit: u32, fits: u32) -> Said {
 
 fn turned(file: File, fits: u32) -> Numbers {
     let header = word_there(file, 0);
-    let mut all = no_numbers();
+    let mut all = Numbers::default();
     for bit in 0..32 {
         let word = header ^ (1u32 << bit);
         all = instead(all, file, 0, word, Some(said_of_turned(bit, fits)));

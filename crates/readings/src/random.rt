@@ -2,6 +2,7 @@
 use crate::files::FileWords;
 use accounts::reading::File;
 use reference::trial::next;
+use testing::kinds::Kind;
 use testing::words::Words;
 
 // A random number below another; below 0 it is 0.
@@ -13,7 +14,7 @@ pub fn draw(state: &mut u64, below: u32) -> u32 {
 
 // A random one of so many numbers from another on.
 fn draw_from(state: &mut u64, first: u32, count: u32) -> u32 {
-    std::num::wrapping_add_u32(draw(state, count), first)
+    draw(state, count).wrapping_add(first)
 }
 
 // Targets of one kind: the first function and how many there are, the first comparison code of them and how many.
@@ -73,6 +74,7 @@ fn wired(state: &mut u64, function: u32) -> u32 {
 }
 
 // A word of a kind for a function; a recipe passes 3, 5 and 6.
+// Kept: the kind by number, since a damaged file has any of the sixteen.
 pub fn random_word(state: &mut u64, kind: u32, function: u32) -> u32 {
     if kind < 5 {
         return (kind << 28) | function;
@@ -86,11 +88,11 @@ pub fn random_word(state: &mut u64, kind: u32, function: u32) -> u32 {
 }
 
 // Words of one kind for some of the functions, in order: of each one time in one to eight.
-fn push_table(words: &mut FileWords, kind: u32, state: &mut u64) {
+fn push_table(words: &mut FileWords, kind: Kind, state: &mut u64) {
     let odds = draw(state, 8);
     for function in 1..=27 {
         if draw(state, odds % 8 + 1) == 0 {
-            words.push(random_word(state, kind, function));
+            words.push(random_word(state, u32::from(kind), function));
         }
     }
 }
@@ -100,7 +102,7 @@ fn push_rules(words: &mut FileWords, state: &mut u64) {
     let most = if draw(state, 50) == 0 { 513 } else { 12 };
     for _ in 0..draw(state, most) {
         let function = draw_from(state, 1, 27);
-        words.push(random_word(state, 5, function));
+        words.push(random_word(state, u32::from(Kind::Rule), function));
     }
 }
 
@@ -108,24 +110,24 @@ fn push_rules(words: &mut FileWords, state: &mut u64) {
 fn random_job(width: u32, state: &mut u64) -> FileWords {
     let asked = (*state >> 20) % 2 * 128;
     let mut words = Words::empty();
-    words.push(0x1000_0000 | width | asked as u32);
-    words.push(0x2000_0000 | draw(state, 0x0100_0000));
+    words.push(Kind::Header.word(width | asked as u32));
+    words.push(Kind::Prices.word(draw(state, 0x0100_0000)));
     // The one source, where the table has none.
     let source = draw_from(state, 1, 27);
-    push_table(&mut words, 3, state);
+    push_table(&mut words, Kind::Source, state);
     if words.written().len() == 2 {
-        words.push(0x3000_0000 | source);
+        words.push(Kind::Source.word(source));
     }
-    push_table(&mut words, 4, state);
+    push_table(&mut words, Kind::Target, state);
     push_rules(&mut words, state);
     words
 }
 
 fn random_mapping(width: u32, state: &mut u64) -> FileWords {
     let mut words = Words::empty();
-    words.push(0x1000_0000 | width);
-    push_table(&mut words, 6, state);
-    words.push(0x7000_0000 | draw(state, 0x1000_0000));
+    words.push(Kind::Header.word(width));
+    push_table(&mut words, Kind::Binding, state);
+    words.push(Kind::Glue.word(draw(state, 0x1000_0000)));
     words
 }
 

@@ -10,7 +10,8 @@ pub enum Subject {
 }
 
 // A refusal's number and place, as document 01 has them.
-// Kept: the number, which is what the second account is to tell without the library's enum.
+// Kept: the number, as document 01 speaks of refusals: it is what is compared, and an enum of the second account would be turned into it at
+// once.
 #[derive(Clone, Copy, PartialEq, Eq)]
 pub struct Refusal {
     pub subject: Subject,

@@ -43,6 +43,7 @@ pub fn in_range(function: u32, width: u32, at: Operands) -> Result<(), usize> {
 }
 
 // The four ports; zeros where a value is out of range.
+// Kept: zeros. `in_range` tells it, and a `Result` would be taken apart by callers who have asked.
 pub fn evaluate(function: u32, width: u32, at: Operands) -> Shown {
     if in_range(function, width, at).is_err() {
         return Shown {

@@ -142,6 +142,7 @@ fn carry_in(code: u32, carry: u32) -> u32 {
 }
 
 // The four ports; zeros where a value is out of range.
+// Kept: zeros, as the evaluator has them.
 pub fn recipe_shows(word: u32, width: u32, at: Operands) -> Shown {
     let fields = fields_of(word);
     if in_range(1, width, at).is_err() {

@@ -47,6 +47,7 @@ fn misfits(word: u32, fields: Fields) -> bool {
 // What refuses a recipe word by itself: the number, 2, 3, 5 or 6.
 pub fn recipe_fits(word: u32) -> Result<(), u32> {
     let fields = fields_of(word);
+    // Kept: a rule's kind and a binding's by number, since this crate stands on no other, nor on the tests' names of kinds.
     if (fields.kind != 5) & (fields.kind != 6) {
         return Err(2);
     }

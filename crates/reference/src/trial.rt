@@ -24,17 +24,18 @@ pub fn ones(n: u32) -> u64 {
 }
 
 // Where sums wrap, signs change and bits alternate.
-fn corner(n: u32, k: u32) -> u64 {
+fn corners(n: u32) -> [u64; 7] {
     let all = ones(n);
-    match k {
-        0 => 0,
-        1 => 1,
-        2 => all / 2,
-        3 => all ^ (all / 2),
-        4 => all,
-        5 => 0x5555_5555_5555_5555 & all,
-        _ => 0xaaaa_aaaa_aaaa_aaaa & all,
-    }
+    let alternate = 0x5555_5555_5555_5555 & all;
+    [
+        0,
+        1,
+        all / 2,
+        all ^ (all / 2),
+        all,
+        alternate,
+        all ^ alternate,
+    ]
 }
 
 // A right operand that is random, or equals the left one or differs from it in the lowest bit, in the top bit or in all, as random words
@@ -53,9 +54,10 @@ fn related(n: u32, left: u64, random: u64) -> u64 {
 // Some operands of n bits, in turn: 98 corners, 7 to the left by 7 to the right by 2 carries; then random ones.
 pub fn sampled(n: u32, i: u32, seed: u64) -> Operands {
     if i < 98 {
+        let corners = corners(n);
         return Operands {
-            left: corner(n, i % 7),
-            right: corner(n, i / 7 % 7),
+            left: corners[(i % 7) as usize],
+            right: corners[(i / 7 % 7) as usize],
             carry: i / 49,
         };
     }
@@ -98,6 +100,8 @@ fn agrees_at_many(word: u32, n: u32) -> bool {
 }
 
 // Whether a recipe is right, as far as it is tried: whole at widths to 7.
+// Kept: a word and a width, not a struct of both. They come from two places, a word of a file or a bench and its width, so that each
+// caller would put the struct together for one call.
 pub fn is_right(word: u32, n: u32) -> bool {
     if n <= 7 {
         return agrees_at_all(word, n);

@@ -6,6 +6,7 @@ use reference::answer::{Answer, Given, Subject, refused, wrong};
 use reference::recipe::fields_of;
 use reference::refusal::recipe_fits;
 use reference::trial::is_right;
+use testing::kinds::Kind;
 use testing::words::Words;
 
 // Of a function there is one rule at most.
@@ -63,8 +64,8 @@ fn bind_answer(bench: &BenchWords, list: List, rule: u32) -> Answer {
         return Err(refused(Subject::Word, fault, 0));
     }
     let fields = fields_of(rule);
-    let source = bench.sources.entry_of(0x3000_0000 | fields.source);
-    let target = bench.targets.entry_of(0x4000_0000 | fields.target);
+    let source = bench.sources.entry_of(Kind::Source.word(fields.source));
+    let target = bench.targets.entry_of(Kind::Target.word(fields.target));
     if source.is_none() || (target.is_none() && fields.target != 0) {
         return Err(refused(Subject::Word, 8, 0));
     }

@@ -8,7 +8,7 @@ use testing::tally::more;
 use testing::words::put;
 
 // Numbers tried, those released, and those at which the answer or the bench is not as it should be.
-#[derive(Clone, Copy)]
+#[derive(Clone, Copy, Default)]
 struct Tally {
     tried: u64,
     released: u64,
@@ -27,7 +27,7 @@ fn with(all: Tally, bench: BenchWords, function: u32, is_bound: bool) -> Tally {
     let answer = told.answer;
     let mut expected = bench;
     if is_bound {
-        let entry = std::num::wrapping_sub_usize(function as usize, 1);
+        let entry = (function as usize).wrapping_sub(1);
         put(&mut expected.bound, entry, 0);
     }
     let same = (answer == expected_answer(is_bound, function)) & (told.bench == expected.counted());
@@ -38,15 +38,12 @@ fn with(all: Tally, bench: BenchWords, function: u32, is_bound: bool) -> Tally {
     }
 }
 
-fn report_bench(rt: &HostRuntime, name: &[u8], bench: BenchWords, all_bound: bool) {
-    let mut all = Tally {
-        tried: 0,
-        released: 0,
-        differ: 0,
-    };
+fn report_bench<F: Fn(u32) -> bool>(rt: &HostRuntime, name: &[u8], bench: BenchWords, is_bound: F)
+    requires { F.IsAlwaysCallable is_bound }
+{
+    let mut all = Tally::default();
     for function in 0..64 {
-        let is_source = (function > 0) & (function < 28);
-        all = with(all, bench, function, is_source & all_bound);
+        all = with(all, bench, function, is_bound(function));
     }
     say::text(rt, name);
     let _ = println!(rt;
@@ -57,7 +54,9 @@ fn report_bench(rt: &HostRuntime, name: &[u8], bench: BenchWords, all_bound: boo
 
 pub fn report(rt: &HostRuntime) {
     let bench = whole_bench(2);
-    report_bench(rt, b"every function bound to itself", bench, true);
+    report_bench(rt, b"every function bound to itself", bench, |function| {
+        (1..28).contains(&function)
+    });
     report_bench(
         rt,
         b"every function a source, nothing bound",
@@ -66,6 +65,6 @@ pub fn report(rt: &HostRuntime) {
             ..bench
         }
         .counted(),
-        false,
+        |_| false,
     );
 }

@@ -54,6 +54,7 @@ fn say_outcome(rt: &HostRuntime, as_said: bool, entry: Option<usize>) {
     }
 }
 
+// Kept: like a bind's row in `benches`, but a release has a number and no word, empties an entry, and has no operands to bear out.
 fn show(rt: &HostRuntime, row: Release) {
     let (name, bench, entry, function) = row;
     let bench = bench.words();

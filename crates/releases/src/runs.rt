@@ -5,6 +5,7 @@ use accounts::sound::BenchWords;
 use bench_calls::steps::Step;
 use bench_calls::{calls, lines};
 use reference::trial::next;
+use testing::kinds::Kind;
 use testing::tally::more;
 use testing::words::{from_scratch, word_of};
 
@@ -82,9 +83,9 @@ fn tables_at(width: u32) -> BenchWords {
 
 // A rule of a function: from scratch, if it is a logic function, or out of itself; now and then with a bit turned.
 fn rule_of(function: u32, random: u64) -> u32 {
-    let plain = from_scratch(5, function)
+    let plain = from_scratch(Kind::Rule, function)
         .filter(|_| random % 2 == 0)
-        .unwrap_or(word_of(5, function));
+        .unwrap_or(word_of(Kind::Rule, function));
     if random / 2 % 4 == 0 {
         return plain ^ (1u32 << (random / 8 % 32));
     }

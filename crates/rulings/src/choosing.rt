@@ -2,25 +2,25 @@
 // the glue of that list anew. The book, whose words are handed in, stands behind the job's own rules where the job asks for it. At widths
 // to 4 a rule is tried at all operands. Above them it is right if it is known to be, so that jobs of these widths may hold only
 // rules of which it is known whether they are right; those of the book are right at every width.
-use crate::checking::{count_for, has_word};
+use crate::checking::{Pair, has_word};
 use crate::known::is_known_right;
 use accounts::reading::{function, read_job, width_of};
 use reference::answer::{Refusal, Subject, refused};
 use reference::recipe::fields_of;
 use reference::trial::is_right;
-use std::num::wrapping_add_usize;
-use testing::words::{Words, at, content, glue_word, kind};
+use testing::kinds::{Kind, kind_of};
+use testing::words::{Words, at, content, glue_word};
 
 // No mapping has more words.
 pub type Mapping = Words<29>;
 
 // Whether a source can be bound by a rule.
 fn is_usable(job: &[u32], rule: u32, of_book: bool, source: u32) -> bool {
-    if (kind(rule) != 5) | (function(rule) != source) {
+    if (kind_of(rule) != Some(Kind::Rule)) | (function(rule) != source) {
         return false;
     }
     let target = fields_of(rule).target;
-    if (target != 0) & !has_word(job, 4, target) {
+    if (target != 0) & !has_word(job, Kind::Target, target) {
         return false;
     }
     let n = width_of(job);
@@ -35,7 +35,8 @@ fn is_usable(job: &[u32], rule: u32, of_book: bool, source: u32) -> bool {
 fn glue_of(job: &[u32], bound: Mapping) -> u64 {
     let mut words = bound;
     words.push(glue_word(0));
-    count_for(job, words.written())
+    let mapping = words.written();
+    Pair { job, mapping }.glue_count()
 }
 
 fn glue_with(job: &[u32], bound: Mapping, rule: u32) -> u64 {
@@ -64,11 +65,11 @@ fn best_rule(job: &[u32], book: &[u32], bound: Mapping, source: u32) -> Option<u
 // The header of a mapping and a binding for each source, to before an index; or the source for which there is no usable rule.
 fn bound_by_best(job: &[u32], book: &[u32], end: usize) -> Result<Mapping, u32> {
     let mut words = Words::empty();
-    words.push(0x1000_0000 | width_of(job));
+    words.push(Kind::Header.word(width_of(job)));
     for i in 1..end {
-        let source = content(at(job, wrapping_add_usize(i, 1)));
+        let source = content(at(job, i + 1));
         let rule = best_rule(job, book, words, source).ok_or(source)?;
-        words.push(0x6000_0000 | content(rule));
+        words.push(Kind::Binding.word(content(rule)));
     }
     Ok(words)
 }
@@ -76,14 +77,14 @@ fn bound_by_best(job: &[u32], book: &[u32], end: usize) -> Result<Mapping, u32> 
 // What a mapper that has a book answers with so many words lent.
 pub fn map(job: &[u32], book: &[u32], lent: usize) -> Result<Mapping, Refusal> {
     let facts = read_job(job)?;
-    let last = wrapping_add_usize(facts.sources as usize, 1);
+    let last = facts.sources as usize + 1;
     let asked = if facts.book { book } else { &book[..0] };
     let mut words = bound_by_best(job, asked, last).map_err(|source| refused(
         Subject::Job,
         12,
         source as usize,
     ))?;
-    let size = wrapping_add_usize(last, 1);
+    let size = last + 1;
     if lent < size {
         return Err(refused(Subject::Job, 23, size));
     }

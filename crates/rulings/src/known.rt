@@ -5,7 +5,7 @@
 // overflows. What is wrong shows another function, or differs where both operands are 0, or, with the sign of SUB, where it overflows;
 // those of EQ, NEQ and GT are right at width 1, and differ above it at 0 and 1.
 use reference::recipe::fields_of;
-use std::num::wrapping_sub_usize;
+use testing::kinds::Kind;
 use testing::words::word_of;
 
 const ROWS: [[u32; 4]; 27] = [
@@ -67,8 +67,8 @@ const ROWS: [[u32; 4]; 27] = [
 
 // The rules known of a function: out of itself, the three right ones of its row, and last the wrong one; zeros where it has no row.
 pub fn known_rules(function: u32) -> [u32; 5] {
-    let itself = word_of(5, function);
-    let index = wrapping_sub_usize((function % 32) as usize, 1);
+    let itself = word_of(Kind::Rule, function);
+    let index = ((function % 32) as usize).wrapping_sub(1);
     match ROWS.get(index) {
         Some([first, second, third, wrong]) => [itself, *first, *second, *third, *wrong],
         None => [itself, 0, 0, 0, 0],

@@ -3,16 +3,17 @@
 #![tactic(auto)]
 
 ghost use Rattle.std.specs.Prelude.{◌≡◌, ◌<◌};
-ghost use Rattle.bits.specs.Bits as B;
 ghost use Rattle.equivalence.specs.Sets as F;
 ghost use Rattle.search.specs.Search as S;
 
 use binding::{Recipe, Side};
 use bits::Width;
 use equivalence::moves::{self, Tables};
-use equivalence::{rounds, witness};
+use equivalence::rounds::{self, Rounds};
+use equivalence::witness;
 
 // Operands and a carry at which a recipe does not show what a source side shows.
+// Kept: two words, put together bit by bit by a walk that counts places and has no width; `bits::Operands` carries one.
 #[derive(Clone, Copy)]
 pub struct Counterexample {
     pub left: u64,
@@ -20,12 +21,26 @@ pub struct Counterexample {
     pub carry: bool,
 }
 
-#[tactic(auto, unfolding(bits::specs::Bits::bit))]
-fn is_in(set: u64, i: u8) -> bool
-    requires { i < 64 }
-    ensures { result ≡ B.bit set i }
+// From the start state with a carry or without, with k + 1 places to go.
+fn refuted(
+    tables: &Tables,
+    rounds: &Rounds,
+    k: usize,
+    start: u8,
+    carry: bool,
+) -> Option<Counterexample>
+    requires { (k < 64) × (start < 64) × F.Kept tables.now k rounds.now }
+    ensures { S.ConcludedFrom tables.now k start carry result }
 {
-    (set >> i) % 2 == 1
+    if !bits::bit(rounds.sets[rounds.last], start as u32) {
+        return None;
+    }
+    let w = witness::walk(tables, rounds, k, start as usize);
+    Some(Counterexample {
+        left: w.left,
+        right: w.right,
+        carry,
+    })
 }
 
 // From the start states without and with a carry, with k + 1 places to go.
@@ -34,24 +49,10 @@ fn decide(tables: &Tables, k: usize, plain: u8, carried: u8) -> Option<Counterex
     ensures { S.Concluded tables.now k plain carried result }
 {
     let rounds = rounds::failing_sets(tables, k);
-    let set = rounds.sets[rounds.last];
-    if is_in(set, plain) {
-        let w = witness::walk(tables, &rounds, k, plain as usize);
-        return Some(Counterexample {
-            left: w.left,
-            right: w.right,
-            carry: false,
-        });
+    if let Some(found) = refuted(tables, &rounds, k, plain, false) {
+        return Some(found);
     }
-    if is_in(set, carried) {
-        let w = witness::walk(tables, &rounds, k, carried as usize);
-        return Some(Counterexample {
-            left: w.left,
-            right: w.right,
-            carry: true,
-        });
-    }
-    None
+    refuted(tables, &rounds, k, carried, true)
 }
 
 // Nothing where the recipe shows what the source side shows at all operands and both carries.

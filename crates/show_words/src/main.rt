@@ -3,7 +3,8 @@
 
 ghost use Rattle.std.specs.Prelude.{◌≤◌};
 
-use text::Text;
+use console::Failed;
+use text::Said;
 
 // The bytes of a word so far, and how many they are.
 // Kept: no heap, a rule of the project.
@@ -22,29 +23,26 @@ fn next_word() -> Word {
     }
 }
 
-// Prints a word's line, and answers whether it could.
-fn show(rt: &HostRuntime, bytes: [u8; 4]) -> bool {
-    let mut line = Text::new();
+// Prints a word's line.
+fn show(rt: &HostRuntime, bytes: [u8; 4]) -> Result<(), Failed> {
+    let mut line = Said::new();
     describe::put_word(u32::from_le_bytes(bytes), &mut line);
     console::print(rt, line.as_bytes())
 }
 
 impl Word {
-    // The word after a byte more; the fourth has it shown. There is none where its line cannot be written.
-    fn with(self, rt: &HostRuntime, byte: u8) -> Option<Word> {
+    // The word after a byte more; the fourth has it shown.
+    fn with(self, rt: &HostRuntime, byte: u8) -> Result<Word, Failed> {
         let mut bytes = self.bytes;
         bytes[self.kept] = byte;
         if self.kept < 3 {
-            return Some(Word {
+            return Ok(Word {
                 bytes,
                 kept: self.kept + 1,
             });
         }
-        if show(rt, bytes) {
-            Some(next_word())
-        } else {
-            None
-        }
+        show(rt, bytes)?;
+        Ok(next_word())
     }
 
     // The end of standard input: a word of which some bytes came is cut short.
@@ -55,25 +53,12 @@ impl Word {
     }
 }
 
-// More bytes than standard input has.
-const MOST: usize = 2305843009213693952;
-
-// Shows the words of standard input until it ends, a read fails or a line cannot be written.
-fn show_all(rt: &HostRuntime) {
-    let mut stdin = console::unread();
-    let mut word = next_word();
-    for _ in 0..MOST {
-        let Ok(got) = stdin.next(rt) else {
-            return;
-        };
-        let Some(byte) = got else {
-            return word.end(rt);
-        };
-        let Some(after) = word.with(rt, byte) else {
-            return;
-        };
-        word = after;
-    }
+// Shows the words of standard input until it ends.
+fn show_all(rt: &HostRuntime) -> Result<(), Failed> {
+    let start = next_word();
+    let last = console::each_byte(rt, start, |word, byte| word.with(rt, byte))?;
+    last.end(rt);
+    Ok(())
 }
 
 fn main(rt: HostRuntime) {
@@ -89,6 +74,6 @@ fn main(rt: HostRuntime) {
         example: echo 54000001 | pack_words | show_words\n",
     );
     if run {
-        show_all(&rt);
+        let _ = show_all(&rt);
     }
 }

@@ -1,16 +1,31 @@
 -- Words copied into lent ones: what then stands in the words of a job.
-use mathlib.Core.Path.{◌≡◌, ap, ◌∙◌}
+use mathlib.Core.Path.{◌≡◌, refl, sym, ap, ◌∙◌}
 use mathlib.Core.List.{List, ◌∷◌, ◌++◌}
 use Prim.Native.Nat.{ℕ, ◌+◌, ◌≤◌}
 use native.Mathlib.Omega.{arith}
-use lib.ListN.{length, take, drop, set, replicate, length-append}
-use lib.Seq.{sets, sets-eq, length-take-le, take_at}
+use lib.ListN.{length, take, drop, set, replicate, length-append, length-take}
+use lib.Seq.{sets, length-take-le, take_at, take-length}
+use borrow.Rule.Slice.PartMut.{put_mid}
 use Rattle.std.specs.Prelude.{Result}
+use Rattle.std.proofs.lemmas.Slice.{put_mid-paste}
+use Rattle.std.proofs.lemmas.List.Edits.{sets-eq}
 use Rattle.words.proofs.Copies.{sets-append}
 use Rattle.words.specs.declared.Refusal.{Refusal}
 use Rattle.reader.specs.Job.{job_of}
 use Rattle.reader.specs.declared.Job.{Job}
 use Rattle.sequence.specs.Limits.{most_sources, most_targets}
+use Rattle.words.specs.Field.{word_of}
+use Rattle.words.specs.Kinds.{HEADER}
+use Rattle.table.specs.Parts.{Terms, terms_held}
+use Rattle.table.specs.declared.terms.Terms as held
+use Rattle.soundness.specs.Sound.{terms_on, prices_word, table_words}
+use Rattle.soundness.specs.declared.Tables.{Tables}
+
+-- a part of lent words, with these words put in place of it
+pub part_copied : (ws lent part : List ℕ) (at k : ℕ) → part ≡ ws → k ≡ length ws → at + length ws ≤ length lent
+    → put_mid at k lent part ≡ sets lent at ws
+part_copied ws lent part at k e n h =
+    put_mid-paste at k lent part ws (length ws) e (sym n) refl ∙ rw (take-length ws) (sym (sets-eq ws lent at h))
 
 -- ---- a job without rules
 
@@ -35,5 +50,19 @@ module _ (header prices : ℕ) (ss ts m k : List ℕ) (few_sources : length ss �
       let q : 2 + length ss + length ts ≡ 2 + length (ss ++ ts) = omega (arith, length-append ss ts) in
       rw (both_copied, q) (sets-taken (ss ++ ts) (front header prices) 2 (omega (arith, length-append ss ts)))
 
-  pub job_words : (r : Result Job Refusal) → r ≡ job_of (take (2 + length ss + length ts) k) → r ≡ job_of (header ∷ prices ∷ (ss ++ ts))
-  job_words r e = e ∙ ap job_of words_taken
+-- the tables' words, and the job that they make
+module _ (t : Tables) (x : held.Terms) (e : terms_held x ≡ terms_on t) where
+  pub few_sources : t.nsources ≤ most_sources → length x.sources.now ≤ most_sources
+  few_sources h = omega (arith, ap (λ (y : Terms). length y.sources) e, length-take t.nsources t.sources)
+
+  pub few_targets : t.ntargets ≤ most_targets → length x.targets.now ≤ most_targets
+  few_targets h = omega (arith, ap (λ (y : Terms). length y.targets) e, length-take t.ntargets t.targets)
+
+  pub job_words : (header prices : ℕ) (m k : List ℕ) (r : Result Job Refusal) → t.nsources ≤ most_sources → t.ntargets ≤ most_targets
+      → header ≡ word_of HEADER x.width.n → prices ≡ prices_word x.prices
+      → m ≡ sets (front header prices) 2 x.sources.now → k ≡ sets m (2 + length x.sources.now) x.targets.now
+      → r ≡ job_of (take (2 + length x.sources.now + length x.targets.now) k) → r ≡ job_of (table_words t)
+  job_words header prices m k r hs ht eh ep em ek er =
+      er ∙ ap job_of (words_taken header prices x.sources.now x.targets.now m k (few_sources hs) (few_targets ht) em ek)
+      ∙ (λ i. job_of (eh i ∷ ep i ∷ (x.sources.now ++ x.targets.now)))
+      ∙ ap (λ (y : Terms). job_of (word_of HEADER y.width ∷ prices_word y.prices ∷ (y.sources ++ y.targets))) e

@@ -16,6 +16,8 @@ use Rattle.soundness.specs.declared.Tables.{Tables}
 use Rattle.soundness.specs.contracts.Tables.{the_type}
 use Rattle.soundness.specs.declared.sound.SoundTables.{SoundTables}
 use Rattle.soundness.specs.contracts.sound.SoundTables as sound
+use Rattle.soundness.specs.declared.sound.BoundTables.{BoundTables}
+use Rattle.soundness.specs.contracts.sound.BoundTables as held
 
 pub tables_shaped : (t : Tables) (vs : List Val) → Is (row the_type) t vs → TablesShaped t
 tables_shaped t vs g =
@@ -29,6 +31,13 @@ tables_shaped t vs g =
 
 pub sound_shaped : (t : SoundTables) (vs : List Val) → Is (row sound.the_type) t vs → TablesShaped t.tables
 sound_shaped t vs g = tables_shaped t.tables _ g.1.1.0
+
+pub held_shaped : (h : BoundTables) (vs : List Val) → Is (row held.the_type) h vs → TablesShaped h.tables.tables
+held_shaped h vs g = sound_shaped h.tables _ g.1.1.0
+
+-- so many entries are there
+pub held_entries : (h : BoundTables) (vs : List Val) → Is (row held.the_type) h vs → length h.bound ≡ most_sources
+held_entries h vs g = g.1.1.1.0.1.0.1
 
 -- the entries from one on
 pub rest_of : (l : List ℕ) (n most : ℕ) → length l ≡ most → take (most - n) (drop n l) ≡ drop n l

@@ -1,28 +1,30 @@
 -- The tests of soundness, one law for each way out, and what a sound bench holds.
 use mathlib.Core.Path.{◌≡◌, refl, sym, ap, ◌∙◌}
 use mathlib.Core.Bool.{Bool, true, false, not, ◌&&◌, false≢true}
-use mathlib.Core.List.{List, [], ◌∷◌, ◌++◌}
-use Prim.Native.Nat.{ℕ, ◌+◌, ◌-◌, ◌*◌, ◌%◌, ◌^◌, ◌≤◌, ◌<◌}
+use mathlib.Core.List.{List, [], ◌∷◌}
+use mathlib.Core.Logic.{◌⊎◌, inl, inr}
+use Prim.Native.Nat.{ℕ, ◌+◌, ◌-◌, ◌*◌, ◌%◌, ◌^◌, ◌≤◌, ◌<◌, min}
+use native.Mathlib.Decide.{dec_lt}
 use native.Mathlib.Omega.{arith}
 use lib.Bits.{bit_or}
 use lib.Dec.{eqb, ltb}
-use lib.ListN.{length, take, drop, get_or, drop_of_length-le}
-use borrow.Author.Tests.{eq-eqb, ne_eqb, eqb-true, eqb-false, lt-ltb, le-ltb, le-leb, ltb-false, not-true, not-false}
+use lib.ListN.{length, take, drop, drop_of_length-le}
+use borrow.Author.Tests.{eq-eqb, ne_eqb, eqb-true, eqb-false, lt-ltb, le-ltb, ltb-false, not-true, not-false}
 use Rattle.std.specs.Prelude.{if◌then◌else◌, Option, Some, None, is_some, Result, Ok}
 use Rattle.words.specs.declared.Fault.{Fault}
 use Rattle.words.specs.declared.Fault.TheVariants.{OutOfSequence}
 use Rattle.std.specs.List.{list_all}
-use Rattle.words.specs.Field.{kind_of, source_function, word_of}
-use Rattle.words.specs.Kinds.{HEADER, RULE, kind_number, kind_named}
+use Rattle.words.specs.Field.{kind_of, source_function}
+use Rattle.words.specs.Kinds.{RULE, kind_number, kind_named}
 use Rattle.words.specs.declared.kind.WordKind.{WordKind}
 use Rattle.words.specs.declared.kind.WordKind.TheVariants.{Rule}
 use Rattle.words.proofs.Named.{named, no_kind, same_kind}
 use Rattle.words.proofs.Choices.{either}
 use Rattle.words.proofs.Fields.{laid, onto}
-use Rattle.words.proofs.Lists.{drop-next, part_from}
+use Rattle.words.proofs.Lists.{part_from}
 use Rattle.alu.specs.Range.{is_width}
 use Rattle.bits.specs.Asked.{Width}
-use Rattle.alu.proofs.Shown.{width_of}
+use Rattle.alu.proofs.Shown.{width_of, is_width_lem}
 use Rattle.recipe.specs.Fields.{source_of}
 use Rattle.layout.specs.Layout.{recipe_fault}
 use Rattle.binding.specs.Right.{is_right}
@@ -32,7 +34,7 @@ use Rattle.reader.specs.declared.Job.{Job}
 use Rattle.words.specs.declared.Refusal.{Refusal}
 use Rattle.table.specs.Table.{has_target}
 use Rattle.claims.specs.Claim.{claim_in}
-use Rattle.soundness.specs.Sound.{sources_on, targets_on, prices_word, table_words, holds, tables_sound, empty, rule_fault, bindable, entry_sound, bound_sound, glue_on, is_sound}
+use Rattle.soundness.specs.Sound.{sources_on, targets_on, table_words, holds, tables_sound, empty, rule_fault, bindable, entry_sound, bound_sound, glue_on, is_sound}
 use Rattle.soundness.specs.declared.Tables.{Tables}
 use Rattle.soundness.specs.Shape.{TablesShaped}
 use Rattle.soundness.proofs.Shapes.{rest_of}
@@ -111,26 +113,41 @@ all_empty (w ∷ ws) = go (eqb w 0) (all_empty ws)
 
 -- ---- the entries of the sources
 
-module _ (n : ℕ) (ss ts bs : List ℕ) (i : ℕ) (e : bound_sound n ss ts (drop i ss) (drop i bs) ≡ bound_sound n ss ts ss bs) where
-  pub past_sources : (r : Bool) → length ss ≤ i → i ≤ length ss → r ≡ empty (take (length bs - length ss) (drop (length ss) bs))
-      → r ≡ bound_sound n ss ts ss bs
-  unfolding bound_sound
-  past_sources r h g er =
-      let k : length ss ≡ i = omega arith in
-      er ∙ ap empty (part_from (length ss) bs) ∙ ap (λ (x : ℕ). empty (drop x bs)) k ∙ (rw (drop_of_length-le ss h) at e)
+-- the entries past so many, or none where there are fewer
+entries_past : (n k : ℕ) (bs : List ℕ) → k ≡ min n (length bs) → take (length bs - k) (drop k bs) ≡ drop n bs
+entries_past n k bs e =
+    part_from k bs
+    ∙ elim (dec_lt (length bs) n) [
+      | yes h ↦ drop_of_length-le bs (omega arith) ∙ sym (drop_of_length-le bs (omega arith))
+      | no h ↦ ap (λ (x : ℕ). drop x bs) (omega arith)
+    ]
 
-  module _ (h : i < length ss) (g : length ss ≤ length bs) (x : Bool) (ex : x ≡ entry_sound n ss ts (get_or ss i 0) (get_or bs i 0)) where
-    next_sound : (if not x then false else bound_sound n ss ts (drop (i + 1) ss) (drop (i + 1) bs)) ≡ bound_sound n ss ts ss bs
-    unfolding bound_sound
-    next_sound =
-        ap (λ (z : Bool). if not z then false else bound_sound n ss ts (drop (i + 1) ss) (drop (i + 1) bs)) ex
-        ∙ (rw (drop-next ss i h, drop-next bs i (omega arith)) at e)
+module _ (n : ℕ) (all ts : List ℕ) where
+  one_ended : (ss bs : List ℕ) → (length ss ≡ 0) ⊎ (length bs ≡ 0) → empty (drop (length ss) bs) ≡ bound_sound n all ts ss bs
+  unfolding bound_sound empty
+  one_ended [] bs h = refl
+  one_ended (s ∷ ss) [] h = refl
+  one_ended (s ∷ ss) (w ∷ bs) (inl h) = absurd (omega arith)
+  one_ended (s ∷ ss) (w ∷ bs) (inr h) = absurd (omega arith)
 
-    pub unsound_entry : not x ≡ true → false ≡ bound_sound n ss ts ss bs
-    unsound_entry u = rw (not-true x u) at next_sound
+  pub past_sources : (ss bs sources bound : List ℕ) (k : ℕ) (r : Bool) → (length ss ≡ 0) ⊎ (length bs ≡ 0)
+      → drop (length ss) bs ≡ drop (length sources) bound → k ≡ min (length sources) (length bound)
+      → r ≡ empty (take (length bound - k) (drop k bound)) → r ≡ bound_sound n all ts ss bs
+  past_sources ss bs sources bound k r h e ek er =
+      er ∙ ap empty (entries_past (length sources) k bound ek ∙ sym e) ∙ one_ended ss bs h
 
-    pub sound_entry : not x ≡ false → bound_sound n ss ts (drop (i + 1) ss) (drop (i + 1) bs) ≡ bound_sound n ss ts ss bs
-    sound_entry u = rw (not-false x u) at next_sound
+  module _ (ss bs : List ℕ) (s w : ℕ) (ss' bs' : List ℕ) (es : ss ≡ s ∷ ss') (eb : bs ≡ w ∷ bs') where
+    pub rest_past : drop (length ss) bs ≡ drop (length ss') bs'
+    rest_past = rw (es, eb) refl
+
+    module _ (x : Bool) (ex : x ≡ entry_sound n all ts s w) where
+      pub unsound_entry : x ≡ false → bound_sound n all ts ss bs ≡ false
+      unfolding bound_sound
+      unsound_entry u = rw (es, eb, sym ex ∙ u) refl
+
+      pub sound_entry : not x ≡ false → bound_sound n all ts ss bs ≡ bound_sound n all ts ss' bs'
+      unfolding bound_sound
+      sound_entry u = rw (es, eb, sym ex ∙ not-false x u) refl
 
 -- ---- the tables
 
@@ -152,9 +169,6 @@ module _ (b : Tables) (p : Bool) (ep : p ≡ is_width b.width) where
     pub width_tested : Width b.width
     width_tested = width_of b.width (sym ep ∙ not-false p hp)
 
-    pub header_fits_lem : b.width < 2 ^ 28
-    header_fits_lem = omega (arith, width_of b.width (sym ep ∙ not-false p hp))
-
     pub many_sources : most_sources < b.nsources → false ≡ tables_sound b
     unfolding tables_sound
     many_sources h = rw (sym ep ∙ not-false p hp, lt-ltb most_sources b.nsources h) refl
@@ -165,13 +179,12 @@ module _ (b : Tables) (p : Bool) (ep : p ≡ is_width b.width) where
       many_targets h =
           rw (sym ep ∙ not-false p hp, le-ltb most_sources b.nsources hs, lt-ltb most_targets b.ntargets h) refl
 
-      pub tables_read : (header prices : ℕ) (read : Result Job Refusal) (r : Bool) → b.ntargets ≤ most_targets → header ≡ word_of HEADER b.width
-          → prices ≡ prices_word b.prices
-          → read ≡ job_of (header ∷ prices ∷ (sources_on b ++ targets_on b)) → r ≡ holds b.nsources b.ntargets read → r ≡ tables_sound b
+      pub tables_read : (read : Result Job Refusal) (r : Bool) → b.ntargets ≤ most_targets → read ≡ job_of (table_words b)
+          → r ≡ holds b.nsources b.ntargets read → r ≡ tables_sound b
       unfolding tables_sound
-      tables_read header prices read r ht eh ep' er e =
+      tables_read read r ht er e =
           rw (sym ep ∙ not-false p hp, le-ltb most_sources b.nsources hs, le-ltb most_targets b.ntargets ht)
-          (e ∙ ap (holds b.nsources b.ntargets) (er ∙ (λ i. job_of (eh i ∷ ep' i ∷ (sources_on b ++ targets_on b)))))
+          (e ∙ ap (holds b.nsources b.ntargets) er)
 
 -- ---- tables and what is bound
 
@@ -220,16 +233,12 @@ sound_holds b bound g =
     }))))
 
 -- and the other way
-is_width_lem : (n : ℕ) → Width n → is_width n ≡ true
-unfolding is_width
-is_width_lem n h = rw (le-ltb n 1 h.least, le-leb n 64 h.most) refl
-
 pub sound_when : (b : Tables) (bound : List ℕ) (g : ℕ) → Sound b bound g → is_sound b bound g ≡ true
 unfolding is_sound tables_sound
 sound_when b bound g h =
     let t = h.tables in
     rw
-    (is_width_lem b.width t.width, le-ltb most_sources b.nsources t.few_sources, le-ltb most_targets b.ntargets t.few_targets)
+    (is_width_lem b.width t.width.least t.width.most, le-ltb most_sources b.nsources t.few_sources, le-ltb most_targets b.ntargets t.few_targets)
     (rw (t.held, h.past_sources, h.past_targets, h.entries) (eq-eqb g (glue_on b bound) h.count))
 
 module _ (b : Tables) (bound : List ℕ) (g : ℕ) (p : Bool) (ep : p ≡ tables_sound b) where

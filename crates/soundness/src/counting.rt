@@ -3,8 +3,7 @@ ghost use Rattle.std.specs.Prelude.{◌≡◌, eqb, if◌then◌else◌};
 ghost use Rattle.usage.specs.Sets as U;
 ghost use Rattle.soundness.specs.Sound as S;
 
-use crate::{NOTHING, SoundTables};
-use sequence::MOST_SOURCES;
+use crate::{BoundTables, NOTHING};
 
 // What the binding in an entry uses; an empty one uses nothing.
 fn entry_usage(word: u32) -> u64
@@ -24,11 +23,13 @@ fn usage_of(bound: &[u32]) -> u64
     bound.iter().fold(0, |used, word| used | entry_usage(*word))
 }
 
-// The glue count of what is bound.
-#[tactic(auto, using(crate::proofs::Count::set_counted))]
-pub fn glue_on(tables: SoundTables, bound: [u32; MOST_SOURCES]) -> u32
-    ensures { result ≡ S.glue_on tables.tables bound }
-{
-    let terms = tables.terms();
-    tally::price(usage_of(&bound), terms.width, terms.prices)
+impl BoundTables {
+    // The glue count of what is bound.
+    #[tactic(auto, using(crate::proofs::Count::set_counted))]
+    pub fn glue(&self) -> u32
+        ensures { result ≡ S.glue_on self.now.tables.tables self.now.bound }
+    {
+        let terms = self.tables.terms();
+        tally::price(usage_of(&self.bound), terms.width, terms.prices)
+    }
 }

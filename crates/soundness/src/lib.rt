@@ -3,20 +3,17 @@
 #![tactic(auto)]
 
 mod counting;
+mod range;
 mod reading;
 mod sound;
 
-ghost use Rattle.std.specs.Prelude.{◌≡◌, ◌≤◌, length};
-ghost use Rattle.bits.specs.Asked as Q;
-ghost use Rattle.sequence.specs.Limits.{most_sources, most_targets};
-ghost use Rattle.table.specs.Parts as T;
+ghost use Rattle.std.specs.Prelude.{◌≡◌};
 ghost use Rattle.soundness.specs.Sound as S;
 
-use bits::Width;
-pub use counting::glue_on;
+pub use range::InRange;
 pub use reading::copy;
 use sequence::{MOST_SOURCES, MOST_TARGETS};
-pub use sound::SoundTables;
+pub use sound::{BoundTables, SoundTables};
 use table::Terms;
 use words::{Fault, Prices, WordKind};
 
@@ -25,7 +22,8 @@ use words::{Fault, Prices, WordKind};
 pub const NOTHING: u32 = 0;
 
 // A job's width, prices and tables: so many of the source and target words are there, and NOTHING past them.
-// Kept: counts beside the tables. A bench is copied and compared whole, and no heap is a rule of the project.
+// Kept: counts beside the tables, as callers and the definitions read a bench, which is copied and compared whole. No heap is a rule of
+// the project.
 #[derive(Clone, Copy)]
 pub struct Tables {
     pub width: u32,
@@ -34,21 +32,6 @@ pub struct Tables {
     pub nsources: u32,
     pub targets: [u32; MOST_TARGETS],
     pub ntargets: u32,
-}
-
-impl Tables {
-    // The terms of the job.
-    pub fn terms(&self) -> Terms<'_>
-        requires { Q.Width self.now.width × (self.now.nsources ≤ most_sources) × (self.now.ntargets ≤ most_targets) }
-        ensures { T.terms_held result ≡ S.terms_on self.now }
-    {
-        Terms {
-            width: Width { n: self.width },
-            prices: self.prices,
-            sources: &self.sources[..self.nsources as usize],
-            targets: &self.targets[..self.ntargets as usize],
-        }
-    }
 }
 
 // Whether nothing stands in these entries.
@@ -63,7 +46,7 @@ fn is_empty(entries: &[u32]) -> bool
 pub fn rule_fault(word: u32) -> Option<Fault>
     ensures { result ≡ S.rule_fault word }
 {
-    let Some(kind) = words::kind_of(word) else {
+    let Some(kind) = WordKind::of(word) else {
         return Some(Fault::OutOfSequence);
     };
     match kind {
@@ -100,17 +83,17 @@ fn entry_sound(terms: &Terms, source: u32, word: u32) -> bool
 }
 
 // Each source's entry, and nothing in the entries past them.
-#[tactic(auto, using(crate::proofs::Soundness::sound_entry, crate::proofs::Soundness::past_sources))]
+#[tactic(auto, using(crate::proofs::Soundness::rest_past, crate::proofs::Soundness::sound_entry, crate::proofs::Soundness::past_sources))]
 fn bound_sound(terms: &Terms, bound: &[u32]) -> bool
-    requires { length terms.now.sources.now ≤ length bound.now }
     ensures { result ≡ S.bound_sound terms.now.width.n terms.now.sources.now terms.now.targets.now terms.now.sources.now bound.now }
 {
-    for (i, source) in terms.sources.iter().enumerate() {
-        if !entry_sound(terms, *source, bound[i]) {
+    for (source, word) in terms.sources.iter().zip(bound) {
+        if !entry_sound(terms, *source, *word) {
             return false;
         }
     }
-    is_empty(&bound[terms.sources.len()..])
+    let past = terms.sources.len().min(bound.len());
+    is_empty(&bound[past..])
 }
 
 #[tactic(auto, using(crate::proofs::Shapes::tables_shaped, crate::proofs::Soundness::tables_hold, crate::proofs::Soundness::tables_sources, crate::proofs::Soundness::tables_targets, crate::proofs::Soundness::unsound_tables, crate::proofs::Soundness::source_past, crate::proofs::Soundness::target_past, crate::proofs::Soundness::unsound_entries, crate::proofs::Soundness::by_count))]
@@ -128,9 +111,12 @@ pub fn is_sound(tables: Tables, bound: [u32; MOST_SOURCES], glue: u32) -> bool
     if !is_empty(&targets[tables.ntargets as usize..]) {
         return false;
     }
-    let sound = SoundTables { tables };
-    if !bound_sound(&sound.terms(), &bound) {
+    let held = BoundTables {
+        tables: SoundTables { tables },
+        bound,
+    };
+    if !bound_sound(&held.tables.terms(), &held.bound) {
         return false;
     }
-    glue == glue_on(sound, bound)
+    glue == held.glue()
 }

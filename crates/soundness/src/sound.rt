@@ -3,7 +3,8 @@ ghost use Rattle.std.specs.Prelude.{◌≡◌, true};
 ghost use Rattle.table.specs.Parts as T;
 ghost use Rattle.soundness.specs.Sound as S;
 
-use crate::Tables;
+use crate::{InRange, Tables};
+use sequence::MOST_SOURCES;
 use table::Terms;
 
 // Tables that a job could hold.
@@ -19,6 +20,16 @@ impl SoundTables {
     pub fn terms(&self) -> Terms<'_>
         ensures { T.terms_held result ≡ S.terms_on self.now.tables }
     {
-        self.tables.terms()
+        let in_range = InRange {
+            tables: &self.tables,
+        };
+        in_range.terms()
     }
+}
+
+// Sound tables, and what is bound to their sources.
+#[derive(Clone, Copy)]
+pub struct BoundTables {
+    pub tables: SoundTables,
+    pub bound: [u32; MOST_SOURCES],
 }

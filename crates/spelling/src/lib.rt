@@ -2,7 +2,6 @@
 #![tactic(auto)]
 
 ghost use Rattle.std.specs.Prelude.{◌≡◌, ◌+◌, ◌≤◌, ◌++◌, length};
-ghost use Rattle.text.specs.Text.{room};
 ghost use Rattle.spelling.specs.Room.{most_spelling};
 ghost use Rattle.spelling.specs.Spelling.{spelling_of};
 
@@ -51,8 +50,8 @@ const COMPARISONS: [&str; 16] = [
 
 // Puts what a code says; of a code past its table, nothing.
 #[tactic(auto, unfolding(crate::specs::Spelling::spelling_of))]
-pub fn put_spelling(codes: Codes, code: u32, text: &mut Text)
-    requires { length text.old + most_spelling codes ≤ room }
+pub fn put_spelling<const ROOM: usize>(codes: Codes, code: u32, text: &mut Text<ROOM>)
+    requires { length text.old + most_spelling codes ≤ ROOM }
     ensures short { length text.new ≤ length text.old + most_spelling codes }
     ensures text { text.new ≡ text.old ++ spelling_of codes code }
 {

@@ -24,15 +24,10 @@ module _ (says : ℕ → ℕ) (ws : List ℕ) (f : ℕ) where
       let r = Any-from_list_any (λ w. eqb (says w) f) ws e in
       (r.0, (r.2, ap says (get_or_default ws r.0 0 r.1 r.2 ∙ r.3) ∙ eqb-true (says r.1) f r.4))
 
--- an entry of a table is listed, and what is listed is an entry
+-- an entry of a table is listed
 pub source_listed : (ws : List ℕ) (i : ℕ) → i < length ws → lists_source ws (source_function (get_or ws i 0)) ≡ true
 unfolding lists_source
 source_listed ws i h = found_at source_function ws (source_function (get_or ws i 0)) i h refl
-
-pub listed_source : (ws : List ℕ) (f : ℕ) → lists_source ws f ≡ true
-    → (i : ℕ) × ((i < length ws) × (source_function (get_or ws i 0) ≡ f))
-unfolding lists_source
-listed_source ws f e = at_found source_function ws f e
 
 -- ---- a recipe's target, and both its functions
 

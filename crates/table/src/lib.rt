@@ -7,7 +7,7 @@ mod terms;
 ghost use Rattle.std.specs.Prelude.{◌≡◌};
 ghost use Rattle.table.specs.Table as T;
 
-pub use parts::{JobWords, bindings_of};
+pub use parts::{JobWords, MappingWords};
 pub use terms::Terms;
 
 impl Terms<'_> {

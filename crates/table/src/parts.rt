@@ -16,10 +16,10 @@ pub struct JobWords<'a> {
     pub ghost well_formed: { J.WellFormedJob words.now job },
 }
 
-impl JobWords<'_> {
+impl<'a> JobWords<'a> {
     // The terms of the job.
     #[tactic(auto, using(crate::proofs::Slices::width_there, crate::proofs::Slices::terms_there))]
-    pub fn terms(&self) -> Terms<'_>
+    pub fn terms(&self) -> Terms<'a>
         ensures { P.terms_held result ≡ P.terms_of self.now.words.now self.now.job }
     {
         let job = self.job;
@@ -36,7 +36,7 @@ impl JobWords<'_> {
 
     // Its rules: the part that begins after its tables.
     #[tactic(auto, using(crate::proofs::Slices::rules_part))]
-    pub fn rules(&self) -> &[u32]
+    pub fn rules(&self) -> &'a [u32]
         ensures { result.now ≡ P.rules_of self.now.words.now self.now.job }
     {
         let start = reader::rules_start(self.job);
@@ -44,12 +44,21 @@ impl JobWords<'_> {
     }
 }
 
-// The bindings of a mapping.
-pub fn bindings_of(words: &[u32], mapping: Mapping) -> &[u32]
-    requires { M.WellFormedMapping words.now mapping }
-    ensures { result.now ≡ P.bindings_of words.now mapping }
-{
-    let start = reader::BINDINGS_START;
-    let end = start + mapping.bindings as usize;
-    &words[start..end]
+// A mapping that was read, with its words.
+#[derive(Clone, Copy)]
+pub struct MappingWords<'a> {
+    pub words: &'a [u32],
+    pub mapping: Mapping,
+    pub ghost well_formed: { M.WellFormedMapping words.now mapping },
+}
+
+impl<'a> MappingWords<'a> {
+    // Its bindings: the part before its glue word.
+    pub fn bindings(&self) -> &'a [u32]
+        ensures { result.now ≡ P.bindings_of self.now.words.now self.now.mapping }
+    {
+        let start = reader::BINDINGS_START;
+        let end = start + self.mapping.bindings as usize;
+        &self.words[start..end]
+    }
 }

@@ -39,78 +39,99 @@ fn parts_of(usage: u64) -> Parts
     }
 }
 
-// A multiplexer of n bits for each code in use but one, of `size` codes from one code on.
-fn multiplexers(n: u32, codes: u64, from: u32, size: u32, prices: Prices) -> u32
-    requires { (n ≤ 64) × (from < 32) × (size ≤ 15) }
-    ensures { (result ≡ G.steps (G.distinct (B.bit codes) (C.codes from size)) * n * prices.multiplexer) × (result ≤ (size - 1) * n * 255) }
-{
-    amount_each(steps(distinct(codes, from, size)), n, prices.multiplexer)
+// Glue to be counted: what is in use, at a width and at prices. It has a method for each line of document 01's count.
+#[derive(Clone, Copy)]
+struct Glue {
+    width: Width,
+    prices: Prices,
+    parts: Parts,
 }
 
-// Left and right.
-#[tactic(auto, unfolding(glue::specs::Glue::wirings))]
-fn wirings(width: Width, prices: Prices, parts: Parts) -> u32
-    ensures { (result ≡ G.wirings width.n prices (P.used parts)) × (result ≤ 163200) }
-{
-    multiplexers(width.n, parts.left, 0, 6, prices)
-        + multiplexers(width.n, parts.right, 0, 6, prices)
-}
-
-// NOT SI0 and NOT SI1, each once, whichever port uses it.
-#[tactic(auto, unfolding(glue::specs::Glue::complements))]
-fn complements(width: Width, prices: Prices, parts: Parts) -> u32
-    ensures { (result ≡ G.complements width.n prices (P.used parts)) × (result ≤ 32640) }
-{
-    let inverters = amount(width.n, prices.inverter);
-    when(has(parts.left, 3) | has(parts.right, 3), inverters)
-        + when(has(parts.left, 5) | has(parts.right, 5), inverters)
-}
-
-// Kept: this and carry_out differ in constants, but each is a line of document 01's glue count.
-#[tactic(auto, unfolding(glue::specs::Glue::carry_in))]
-fn carry_in(prices: Prices, parts: Parts) -> u32
-    ensures { (result ≡ G.carry_in prices (P.used parts)) × (result ≤ 1020) }
-{
-    multiplexers(1, parts.carry, 0, 4, prices) + when(has(parts.carry, 3), prices.inverter as u32)
-}
-
-#[tactic(auto, unfolding(glue::specs::Glue::main_output))]
-fn main_output(width: Width, prices: Prices, parts: Parts) -> u32
-    ensures { (result ≡ G.main_output width.n prices (P.used parts)) × (result ≤ 48960) }
-{
-    let outputs = distinct(parts.main, 1, 2) + when(has(parts.scratch, 0), 1);
-    amount_each(steps(outputs), width.n, prices.multiplexer)
-        + when(has(parts.main, 2), amount(width.n, prices.inverter))
-}
-
-#[tactic(auto, unfolding(glue::specs::Glue::carry_out))]
-fn carry_out(prices: Prices, parts: Parts) -> u32
-    ensures { (result ≡ G.carry_out prices (P.used parts)) × (result ≤ 510) }
-{
-    multiplexers(1, parts.cout, 1, 2, prices) + when(has(parts.cout, 2), prices.inverter as u32)
-}
-
-#[tactic(auto, unfolding(glue::specs::Glue::comparison))]
-fn comparison(width: Width, prices: Prices, parts: Parts) -> u32
-    ensures { (result ≡ G.comparison width.n prices (P.used parts)) × (result ≤ 153510) }
-{
-    multiplexers(1, parts.code, 1, 15, prices) + codes_count(width, prices, parts.code)
-}
-
-// The gates of the minterms in use, and the complements that they read.
-#[tactic(auto, unfolding(glue::specs::Glue::scratch))]
-fn scratch(width: Width, prices: Prices, parts: Parts) -> u32
-    ensures { (result ≡ G.scratch width.n prices (P.used parts)) × (result ≤ 212160) }
-{
-    let minterms = distinct(parts.minterms, 0, 4);
-    if minterms < 1 {
-        return 0;
+impl Glue {
+    // A multiplexer of n bits for each code in use but one, of `size` codes from one code on.
+    fn multiplexers(self, n: u32, codes: u64, from: u32, size: u32) -> u32
+        requires { (n ≤ 64) × (from < 32) × (size ≤ 15) }
+        ensures { (result ≡ G.steps (G.distinct (B.bit codes) (C.codes from size)) * n * self.prices.multiplexer) × (result ≤ (size - 1) * n * 255) }
+    {
+        amount_each(
+            steps(distinct(codes, from, size)),
+            n,
+            self.prices.multiplexer,
+        )
     }
-    let inverters = amount(width.n, prices.inverter);
-    let neither = has(parts.minterms, 3);
-    amount_each(width.n, 3 * minterms - 1, prices.gate)
-        + when(neither | has(parts.minterms, 2), inverters)
-        + when(neither | has(parts.minterms, 1), inverters)
+
+    // Left and right.
+    #[tactic(auto, unfolding(glue::specs::Glue::wirings))]
+    fn wirings(self) -> u32
+        ensures { (result ≡ G.wirings self.width.n self.prices (P.used self.parts)) × (result ≤ 163200) }
+    {
+        self.multiplexers(self.width.n, self.parts.left, 0, 6)
+            + self.multiplexers(self.width.n, self.parts.right, 0, 6)
+    }
+
+    // NOT SI0 and NOT SI1, each once, whichever port uses it.
+    #[tactic(auto, unfolding(glue::specs::Glue::complements))]
+    fn complements(self) -> u32
+        ensures { (result ≡ G.complements self.width.n self.prices (P.used self.parts)) × (result ≤ 32640) }
+    {
+        let parts = self.parts;
+        let inverters = amount(self.width.n, self.prices.inverter);
+        when(has(parts.left, 3) | has(parts.right, 3), inverters)
+            + when(has(parts.left, 5) | has(parts.right, 5), inverters)
+    }
+
+    // Kept: this and carry_out differ in constants, but each is a line of document 01's glue count.
+    #[tactic(auto, unfolding(glue::specs::Glue::carry_in))]
+    fn carry_in(self) -> u32
+        ensures { (result ≡ G.carry_in self.prices (P.used self.parts)) × (result ≤ 1020) }
+    {
+        self.multiplexers(1, self.parts.carry, 0, 4)
+            + when(has(self.parts.carry, 3), self.prices.inverter as u32)
+    }
+
+    #[tactic(auto, unfolding(glue::specs::Glue::main_output))]
+    fn main_output(self) -> u32
+        ensures { (result ≡ G.main_output self.width.n self.prices (P.used self.parts)) × (result ≤ 48960) }
+    {
+        let outputs = distinct(self.parts.main, 1, 2) + when(has(self.parts.scratch, 0), 1);
+        amount_each(steps(outputs), self.width.n, self.prices.multiplexer)
+            + when(
+                has(self.parts.main, 2),
+                amount(self.width.n, self.prices.inverter),
+            )
+    }
+
+    #[tactic(auto, unfolding(glue::specs::Glue::carry_out))]
+    fn carry_out(self) -> u32
+        ensures { (result ≡ G.carry_out self.prices (P.used self.parts)) × (result ≤ 510) }
+    {
+        self.multiplexers(1, self.parts.cout, 1, 2)
+            + when(has(self.parts.cout, 2), self.prices.inverter as u32)
+    }
+
+    #[tactic(auto, unfolding(glue::specs::Glue::comparison))]
+    fn comparison(self) -> u32
+        ensures { (result ≡ G.comparison self.width.n self.prices (P.used self.parts)) × (result ≤ 153510) }
+    {
+        self.multiplexers(1, self.parts.code, 1, 15)
+            + codes_count(self.width, self.prices, self.parts.code)
+    }
+
+    // The gates of the minterms in use, and the complements that they read.
+    #[tactic(auto, unfolding(glue::specs::Glue::scratch))]
+    fn scratch(self) -> u32
+        ensures { (result ≡ G.scratch self.width.n self.prices (P.used self.parts)) × (result ≤ 212160) }
+    {
+        let minterms = distinct(self.parts.minterms, 0, 4);
+        if minterms < 1 {
+            return 0;
+        }
+        let inverters = amount(self.width.n, self.prices.inverter);
+        let neither = has(self.parts.minterms, 3);
+        amount_each(self.width.n, 3 * minterms - 1, self.prices.gate)
+            + when(neither | has(self.parts.minterms, 2), inverters)
+            + when(neither | has(self.parts.minterms, 1), inverters)
+    }
 }
 
 // The count of a set.
@@ -118,12 +139,12 @@ fn scratch(width: Width, prices: Prices, parts: Parts) -> u32
 pub fn price(usage: u64, width: Width, prices: Prices) -> u32
     ensures { (result ≡ P.set_count width.n prices usage) × (result ≤ 612000) }
 {
-    let parts = parts_of(usage);
-    let inputs = wirings(width, prices, parts)
-        + complements(width, prices, parts)
-        + carry_in(prices, parts);
-    let outputs = main_output(width, prices, parts)
-        + carry_out(prices, parts)
-        + comparison(width, prices, parts);
-    inputs + outputs + scratch(width, prices, parts)
+    let glue = Glue {
+        width,
+        prices,
+        parts: parts_of(usage),
+    };
+    let inputs = glue.wirings() + glue.complements() + glue.carry_in();
+    let outputs = glue.main_output() + glue.carry_out() + glue.comparison();
+    inputs + outputs + glue.scratch()
 }

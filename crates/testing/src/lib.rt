@@ -2,6 +2,7 @@
 // contracts say only what safety needs.
 #![tactic(auto)]
 
+pub mod kinds;
 pub mod say;
 pub mod tally;
 pub mod words;

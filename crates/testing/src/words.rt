@@ -1,5 +1,5 @@
 // The job and the mapping that document 01 prints, and how words are taken apart and put together.
-use std::num::{wrapping_add_usize, wrapping_sub_usize};
+use crate::kinds::Kind;
 
 pub const JOB: [u32; 14] = [
     0x1000_0010,
@@ -36,10 +36,6 @@ pub const VECTORS: [u32; 16] = [
 // What a lent word holds before.
 pub const LENT: u32 = 0xEEEE_EEEE;
 
-pub fn kind(word: u32) -> u32 {
-    word / 0x1000_0000
-}
-
 pub fn content(word: u32) -> u32 {
     word % 0x1000_0000
 }
@@ -56,23 +52,14 @@ pub fn put(words: &mut [u32], i: usize, word: u32) {
     }
 }
 
-// The words of the printed job, then those of its mapping, then 0.
-pub fn printed_word(i: usize) -> u32 {
-    at(&JOB, i) | at(&MAPPING, wrapping_sub_usize(i, 14))
-}
-
 // The first n words, or all.
 pub fn first(words: &[u32], n: usize) -> &[u32] {
-    if n <= words.len() { &words[..n] } else { words }
+    &words[..n.min(words.len())]
 }
 
 // The words from an index on, or none.
 pub fn after(words: &[u32], n: usize) -> &[u32] {
-    if n <= words.len() {
-        &words[n..]
-    } else {
-        &words[..0]
-    }
+    &words[n.min(words.len())..]
 }
 
 // Whether these words stand in lent words, and nothing past them.
@@ -119,21 +106,22 @@ impl<const ROOM: usize> Words<ROOM> {
     // A word before the one at an index. Where all are written the last goes.
     pub fn insert(&mut self, index: usize, word: u32) {
         self.push(word);
-        let mut moved = word;
-        for i in index..self.size {
-            let next = at(&self.words, i);
-            put(&mut self.words, i, moved);
-            moved = next;
+        let end = self.size.min(ROOM);
+        if index < end {
+            let words = &mut self.words[..];
+            words[index..end].rotate_right(1);
+            words[index] = word;
         }
     }
 
     // Takes the word at an index out.
     pub fn remove(&mut self, index: usize) {
-        for i in index..self.size {
-            let next = at(&self.words, wrapping_add_usize(i, 1));
-            put(&mut self.words, i, next);
+        let end = self.size.min(ROOM);
+        if index < end {
+            let words = &mut self.words[..];
+            words[index..end].rotate_left(1);
+            self.size = end - 1;
         }
-        self.size = self.size.saturating_sub((index < self.size) as usize);
     }
 
     // Cut to so many words, or lengthened to them by zeros.
@@ -147,14 +135,14 @@ impl<const ROOM: usize> Words<ROOM> {
 
 // The words of a mapping between its header and its glue count.
 pub fn bindings_of(mapping: &[u32]) -> &[u32] {
-    first(after(mapping, 1), wrapping_sub_usize(mapping.len(), 2))
+    first(after(mapping, 1), mapping.len().wrapping_sub(2))
 }
 
 // A word of a kind for a function: a source or a target; or a recipe of the function out of itself, SI0 to the left, SI1 to the
 // right, and every port that it drives.
-pub fn word_of(kind: u32, function: u32) -> u32 {
-    if kind < 5 {
-        return (kind << 28) | function;
+pub fn word_of(kind: Kind, function: u32) -> u32 {
+    if (kind != Kind::Rule) & (kind != Kind::Binding) {
+        return kind.word(function);
     }
     let outputs = match function {
         // With SICIN to the carry.
@@ -162,14 +150,14 @@ pub fn word_of(kind: u32, function: u32) -> u32 {
         6..=21 => 0x100,
         _ => 0x001,
     };
-    (kind << 28) | (function << 23) | (function << 18) | 0x1_4000 | outputs
+    kind.word((function << 23) | (function << 18) | 0x1_4000 | outputs)
 }
 
 // A recipe of a logic function from scratch; no other function has one.
-pub fn from_scratch(kind: u32, function: u32) -> Option<u32> {
-    let place = wrapping_sub_usize(function as usize, 6);
+pub fn from_scratch(kind: Kind, function: u32) -> Option<u32> {
+    let place = (function as usize).wrapping_sub(6);
     if place < VECTORS.len() {
-        Some((kind << 28) | (function << 23) | VECTORS[place])
+        Some(kind.word((function << 23) | VECTORS[place]))
     } else {
         None
     }
@@ -177,5 +165,5 @@ pub fn from_scratch(kind: u32, function: u32) -> Option<u32> {
 
 // The glue count's word.
 pub fn glue_word(count: u64) -> u32 {
-    0x7000_0000 | (count % 0x1000_0000) as u32
+    Kind::Glue.word((count % 0x1000_0000) as u32)
 }

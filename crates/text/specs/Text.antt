@@ -9,10 +9,6 @@ abbrev pub bytes : String → List ℕ
 bytes no_text = []
 bytes (c then s) = code c ∷ bytes s
 
--- the most bytes of a text
-abbrev pub room : ℕ
-room = 1024
-
 -- ---- tables of texts
 
 -- the texts that a table of strings holds

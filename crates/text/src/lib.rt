@@ -4,3 +4,6 @@
 mod text;
 
 pub use text::Text;
+
+// Room for all that a program says at once.
+pub type Said = Text<1024>;

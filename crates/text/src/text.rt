@@ -4,27 +4,23 @@ ghost use Rattle.text.specs.Text as T;
 
 use std::marker::Model;
 
-// The most bytes of a text.
-const ROOM: usize = 1024;
-
-// What stands so far.
-// Kept: a fixed room, since no heap is a rule of the project. What is left of it is less after each put, so what puts a text asks for the
-// room of that text; a type for what is left would be made anew at each put.
+// What stands so far, of at most ROOM bytes.
+// Kept: bytes with their count, since no heap is a rule of the project. What is left of the room is less after each put, so what puts a
+// text asks for the room of that text; a type for what is left would be made anew at each put.
 #[derive(Drop)]
-pub struct Text {
+pub struct Text<const ROOM: usize> {
     bytes: [u8; ROOM],
     end: usize,
 }
 
-impl Model for Text {
+impl<const ROOM: usize> Model for Text<ROOM> {
     ghost use Rattle.std.specs.Prelude.{ℕ, List, take, ◌≤◌};
-    ghost use Rattle.text.specs.Text.{room};
 
     ghost Value = { List ℕ };
 
     ghost view = { λ t. take t.end t.bytes };
 
-    ghost invariant = { λ t. t.end ≤ room };
+    ghost invariant = { λ t. t.end ≤ ROOM };
 }
 
 // The names of the functions from 1 on; LV stands for 0.
@@ -59,9 +55,9 @@ fn digit_count(n: u64) -> usize
     20
 }
 
-impl Text {
+impl<const ROOM: usize> Text<ROOM> {
     // Nothing yet.
-    pub fn new() -> Text
+    pub fn new() -> Text<ROOM>
         ensures { result ≡ [] }
     {
         Text {
@@ -79,18 +75,20 @@ impl Text {
 
     // Puts bytes.
     pub fn put(&mut self, bytes: &[u8])
-        requires { length self.old + length bytes.now ≤ T.room }
+        requires { length self.old + length bytes.now ≤ ROOM }
         ensures { self.new ≡ self.old ++ bytes.now }
     {
-        let end = self.end + bytes.len();
-        self.bytes[self.end..end].copy_from_slice(bytes);
+        let start = self.end;
+        let end = start + bytes.len();
+        let room = &mut self.bytes[..];
+        room[start..end].copy_from_slice(bytes);
         self.end = end;
     }
 
     // Puts the text of a table at an index; past the last there is none.
     #[tactic(auto, using(crate::proofs::Tables::entries))]
     pub fn put_entry(&mut self, table: &[&str], index: usize)
-        requires { length self.old + T.longest (T.texts table.now) ≤ T.room }
+        requires { length self.old + T.longest (T.texts table.now) ≤ ROOM }
         ensures short { length self.new ≤ length self.old + T.longest (T.texts table.now) }
         ensures text { self.new ≡ self.old ++ T.entry (T.texts table.now) index }
     {
@@ -102,7 +100,7 @@ impl Text {
     // Puts the name of a function; there is none for a number above the last.
     #[tactic(auto, unfolding(crate::specs::Text::name_of))]
     pub fn put_name(&mut self, function: u32)
-        requires { length self.old + 5 ≤ T.room }
+        requires { length self.old + 5 ≤ ROOM }
         ensures short { length self.new ≤ length self.old + 5 }
         ensures text { self.new ≡ self.old ++ T.name_of function }
     {
@@ -110,9 +108,11 @@ impl Text {
     }
 
     // Puts the last k digits of a number in a base.
+    // Kept: by hand and not by `write!`. The library says what `{}` and `{:x}` write, but not the capital digits of `{:X}`; and a write
+    // through `fmt::Write` can fail, while a put cannot.
     #[tactic(auto, unfolding(crate::specs::Text::digits))]
     pub fn put_digits(&mut self, n: u64, base: u64, k: usize)
-        requires { (length self.old + k ≤ T.room) × (2 ≤ base) × (base ≤ 16) }
+        requires { (length self.old + k ≤ ROOM) × (2 ≤ base) × (base ≤ 16) }
         ensures short { length self.new ≡ length self.old + k }
         ensures text { self.new ≡ self.old ++ T.digits base k n }
     {
@@ -126,7 +126,7 @@ impl Text {
     // Puts a number in decimal.
     #[tactic(auto, unfolding(crate::specs::Text::decimal))]
     fn put_decimal(&mut self, n: u64)
-        requires { length self.old + 20 ≤ T.room }
+        requires { length self.old + 20 ≤ ROOM }
         ensures short { length self.new ≤ length self.old + 20 }
         ensures text { self.new ≡ self.old ++ T.decimal n }
     {
@@ -136,7 +136,7 @@ impl Text {
     // Puts a label, and a number in decimal after it.
     #[tactic(auto, unfolding(crate::specs::Text::labelled))]
     pub fn put_labelled(&mut self, label: &[u8], n: u64)
-        requires { length self.old + length label.now + 20 ≤ T.room }
+        requires { length self.old + length label.now + 20 ≤ ROOM }
         ensures short { length self.new ≤ length self.old + length label.now + 20 }
         ensures text { self.new ≡ self.old ++ T.labelled label.now n }
     {

@@ -1,13 +1,26 @@
 // What the library says, in the terms of the second account, which stands on no crate that it is compared with.
 #![tactic(auto)]
 
-use reference::answer::{Refusal, Subject, refused};
+use bits::Ports;
+use reference::answer::{Refusal, Subject, refused, wrong};
+use reference::evaluator::Shown;
 use reference::recipe::Port;
 use reference::trial::{Witness, bears_out};
+use verdict::Verdict;
 
 // A refusal of a file, of both, or of a word.
 pub fn refusal_of(subject: Subject, refusal: words::Refusal) -> Refusal {
     refused(subject, u32::from(refusal.fault), refusal.place)
+}
+
+// What the four ports show.
+pub fn shown_of(ports: Ports) -> Shown {
+    Shown {
+        o0: ports.o0,
+        ocout: ports.ocout,
+        ovf: ports.ovf,
+        o1: ports.o1,
+    }
 }
 
 // A port.
@@ -32,6 +45,20 @@ pub fn witness_of(witness: words::Witness) -> Witness {
 }
 
 // Whether a witness shows that a recipe is wrong at a width, by the second account.
-pub fn is_shown(word: u32, n: u32, witness: words::Witness) -> bool {
+fn is_shown(word: u32, n: u32, witness: words::Witness) -> bool {
     bears_out(word, n, witness_of(witness))
+}
+
+// A recipe that is wrong at a width, by a witness.
+pub fn wrong_of(word: u32, n: u32, witness: words::Witness) -> Refusal {
+    wrong(Subject::Word, witness.function, is_shown(word, n, witness))
+}
+
+// What the judge answers; a wrong recipe is refusal 10.
+pub fn judged(word: u32, n: u32) -> Result<(), Refusal> {
+    match verdict::judge(word, n) {
+        Ok(Verdict::Right) => Ok(()),
+        Ok(Verdict::Wrong(witness)) => Err(wrong_of(word, n, witness)),
+        Err(refusal) => Err(refusal_of(Subject::Word, refusal)),
+    }
 }

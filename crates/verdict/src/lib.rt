@@ -74,7 +74,7 @@ pub fn is_right(claim: Claim, width: Width) -> bool
 pub fn judge(word: u32, width: u32) -> Result<Verdict, Refusal>
     ensures { D.Judged word width result }
 {
-    if !words::is_recipe(word) {
+    if !words::is_recipe(words::kind_of(word)) {
         return Err(Refusal {
             fault: Fault::OutOfSequence,
             place: 0,

@@ -1,10 +1,8 @@
 // Every recipe there is, by the kinds of its source and of its target. Of the twelve pairings seven hold recipes.
 ghost use Rattle.std.specs.Prelude.{◌≤◌};
 
-use crate::nine::{Recipes, word_at};
+use crate::nine::{Recipes, case_at};
 use crate::stored::RECIPES;
-use crate::trial::{count, tried};
-use reference::refusal::refusal_of;
 use reference::trial::next;
 use testing::say;
 use testing::tally::{Tally, more};
@@ -94,10 +92,10 @@ impl Pairing {
 
     // Those judged at nine widths are chosen by a random number that the word itself seeds.
     fn judge(self, rt: &HostRuntime, all: &mut Counts, content: u32) {
-        let one = tried(word_at(content, 1), 1);
-        let two = tried(word_at(content, 2), 2);
-        count(rt, &mut all.tally, word_at(content, 1), 1, one.holds);
-        count(rt, &mut all.tally, word_at(content, 2), 2, two.holds);
+        let one = case_at(content, 1).tried();
+        let two = case_at(content, 2).tried();
+        case_at(content, 1).count(rt, &mut all.tally, one.holds);
+        case_at(content, 2).count(rt, &mut all.tally, two.holds);
         all.recipes = more(all.recipes, true);
         all.one = more(all.one, one.right);
         all.two = more(all.two, two.right);
@@ -111,7 +109,7 @@ impl Pairing {
     fn judge_block(self, rt: &HostRuntime, all: &mut Counts, block: u32) {
         let from = block % 1024 * 0x4_0000;
         for content in from..from + 0x4_0000 {
-            if refusal_of(word_at(content, 1), 1).is_none() {
+            if case_at(content, 1).refused().is_none() {
                 self.judge(rt, all, content);
             }
         }
@@ -121,7 +119,7 @@ impl Pairing {
     fn judged(self, rt: &HostRuntime) -> Counts {
         let mut all = Counts {
             recipes: 0,
-            tally: Tally::none(),
+            tally: Tally::default(),
             one: 0,
             two: 0,
             nine: Recipes::none(),

@@ -2,12 +2,11 @@
 ghost use Rattle.std.specs.Prelude.{◌<◌};
 
 use crate::stored::RECIPES;
-use crate::trial::{count, judged};
+use crate::trial::Case;
 use reference::answer::Refusal;
-use reference::refusal::refusal_of;
 use reference::trial::next;
 use testing::say;
-use testing::tally::{Numbers, more, no_numbers};
+use testing::tally::{Numbers, more};
 
 // The index of the count, by what the reference refuses: 0 for nothing, 1 for the width, or the word's number.
 fn group(refusal: Option<Refusal>) -> usize {
@@ -26,11 +25,9 @@ fn packs_back(word: u32) -> bool {
 }
 
 // Whether the judge refuses as the reference does, which leaves open what is right. Of each word that is judged, the packing is tried too.
-fn agrees(word: u32, width: u32, refusal: Option<Refusal>) -> bool {
-    let told = judged(word, width)
-        .err()
-        .filter(|refusal| refusal.number != 10);
-    packs_back(word) & (told == refusal)
+fn agrees(case: Case, refusal: Option<Refusal>) -> bool {
+    let told = case.judged().err().filter(|refusal| refusal.number != 10);
+    packs_back(case.word) & (told == refusal)
 }
 
 // A word with a value put into the field of `most` ones from bit `low`, cut to it.
@@ -42,6 +39,8 @@ fn with_field(word: u32, low: u32, most: u32, value: u32) -> u32
 }
 
 // A word with one field at one of its values: 128 of them, the kind's 16 first, the comparison code's last.
+// Kept: ranges of a number, since the width of a case is drawn by the same number. A table of the fields would have a line for each too,
+// and would be searched by adding up how many values they have.
 fn with_one_field(word: u32, i: u32) -> u32 {
     match i {
         0..=15 => with_field(word, 28, 15, i),
@@ -59,12 +58,6 @@ fn with_one_field(word: u32, i: u32) -> u32 {
 }
 
 const FOUR: [u32; 4] = [0, 1, 64, 65];
-
-#[derive(Clone, Copy)]
-struct Case {
-    word: u32,
-    width: u32,
-}
 
 // Every word of kind 5; a random word at four widths; a stored recipe with one field changed, at a width that is mostly 0, 1 or 65, which
 // are judged at once.
@@ -109,13 +102,12 @@ fn with_field_changed(i: u32) -> Case {
 }
 
 fn compared(rt: &HostRuntime, lot: Lot, cases: u32) -> Numbers {
-    let mut all = no_numbers();
+    let mut all = Numbers::default();
     let mut random = 0x2545_f491_4f6c_dd1d;
     for i in 0..cases {
         let case = case_of(lot, i, random);
-        let refusal = refusal_of(case.word, case.width);
-        let same = agrees(case.word, case.width, refusal);
-        count(rt, &mut all.tally, case.word, case.width, same);
+        let refusal = case.refused();
+        case.count(rt, &mut all.tally, agrees(case, refusal));
         let place = group(refusal) % 12;
         all.by[place] = more(all.by[place], true);
         if i % 4 == 3 {

@@ -10,10 +10,9 @@ use Rattle.words.proofs.Choices.{and_split, and_join}
 use Rattle.bits.specs.Bits.{num}
 use Rattle.bits.specs.Asked.{Width}
 use Rattle.alu.specs.Range.{is_width}
-use Rattle.alu.proofs.Shown.{width_of}
+use Rattle.alu.proofs.Shown.{width_of, is_width_lem}
 use Rattle.grammar.specs.Reading.{header_fits}
 use Rattle.sequence.specs.declared.File.TheVariants.{AsJob}
-use Rattle.wellformed.proofs.Words.{is_width_lem}
 
 -- a bit's number is the bit
 bit-of : (k : ℕ) → k < 2 → num (eqb k 1) ≡ k

@@ -27,7 +27,8 @@ use Rattle.reader.specs.declared.Mapping.{Mapping}
 use Rattle.grammar.proofs.Steps.{by_kind, first_of_kind}
 use Rattle.wellformed.proofs.Parts.{RecipeWord, kind_of-laid, content_of-laid}
 use Rattle.grammar.proofs.Faultless.{Faultless, no_fault}
-use Rattle.wellformed.proofs.Words.{is_width_lem, width_whole, no_outputs, recipe_outputs, function_of-binding, rises_above}
+use Rattle.alu.proofs.Shown.{is_width_lem}
+use Rattle.wellformed.proofs.Words.{width_whole, no_outputs, recipe_outputs, function_of-binding, rises_above}
 use Rattle.wellformed.proofs.MappingWords.{Open, by_open, MappingFacts}
 use Rattle.reader.proofs.Limits.{some_words}
 

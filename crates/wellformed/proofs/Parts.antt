@@ -30,13 +30,6 @@ pub record RecipeWord (kind w : ℕ) : Type 0 where
   pub kind_is : kind_of w ≡ kind
   pub no_fault : recipe_fault w ≡ None
 
--- A word is its kind and its content. (The definitions read words as numbers; those of a slice are below 2 ^ 32.)
-pub whole_word : (w : ℕ) → w < 2 ^ 32 → w ≡ kind_of w * 2 ^ 28 + content_of w
-whole_word w h = omega arith
-
-pub word_of-kind : (k w : ℕ) → kind_of w ≡ k → w < 2 ^ 32 → w ≡ k * 2 ^ 28 + content_of w
-word_of-kind k w e h = omega (arith, whole_word w h)
-
 pub kind_of-laid : (k c : ℕ) → k < 2 ^ 4 → c < 2 ^ 28 → kind_of (k * 2 ^ 28 + c) ≡ k
 kind_of-laid k c h g = omega arith
 

@@ -15,7 +15,7 @@ use Rattle.words.specs.declared.kind.WordKind.TheVariants.{Header, Prices, Sourc
 use Rattle.words.specs.declared.Fault.{Fault}
 use Rattle.words.proofs.Named.{named_back}
 use Rattle.words.proofs.Choices.{either}
-use Rattle.alu.specs.Range.{is_function, is_width}
+use Rattle.alu.specs.Range.{is_function}
 use Rattle.bits.specs.Asked.{Width}
 use Rattle.recipe.specs.Fields.{source_of}
 use Rattle.layout.specs.Layout.{laid_out, reads_undriven, shows_other, recipe_fault}
@@ -28,10 +28,6 @@ use Rattle.grammar.proofs.Faultless.{Faultless}
 use Rattle.wellformed.proofs.Parts.{Entry, RecipeWord}
 
 -- ---- numbers in range
-
-pub is_width_lem : (n : ℕ) → 1 ≤ n → n ≤ 64 → is_width n ≡ true
-unfolding is_width
-is_width_lem n g h = rw (le-ltb n 1 g, le-leb n 64 h) refl
 
 pub is_function_lem : (f : ℕ) → 1 ≤ f → f ≤ 27 → is_function f ≡ true
 unfolding is_function

@@ -2,7 +2,6 @@
 use Rattle.std.specs.Prelude.{ℕ, Option, None, Some, ◌+◌, ◌^◌, ◌≤◌, ◌<◌, ◌≡◌, false}
 use Rattle.hexadecimal.specs.Hex.{between}
 use Rattle.hexadecimal.specs.declared.Step.{Step}
-use Rattle.hexadecimal.specs.declared.Step.TheVariants as Step
 use Rattle.word_text.specs.declared.WordText.{WordText}
 
 -- nothing is read yet: no digits and no comment before the first byte

@@ -9,6 +9,7 @@ use console::Stdin;
 use hexadecimal::{Hex, Step};
 
 // More bytes than a text has. A text that is over stands here.
+// Kept: a place past every text, so that the loop which goes on from a place ends at once; an `Option` would be taken apart first.
 const MOST: usize = 2305843009213693952;
 
 // Standard input, the word being read, and how many bytes came before.
@@ -56,6 +57,7 @@ impl WordText {
     pub fn next(&mut self, rt: &HostRuntime, program: &[u8]) -> Option<u32>
         ensures { W.Forward self.old.at result self.new.at }
     {
+        // Kept: this gives one word a call and keeps its place between calls; `console::each_byte` reads to the end.
         for at in self.at..MOST {
             let Ok(got) = self.stdin.next(rt) else {
                 break;

@@ -77,8 +77,6 @@ pub is_recipe_unnamed : (n : ℕ) → kind_named n ≡ None → false ≡ is_rec
 unfolding is_recipe
 is_recipe_unnamed n e = rw (no_kind n e Rule, no_kind n e Binding) refl
 
--- a kind laid on a content
-pub kind_laid : (n c : ℕ) (k : WordKind) → n ≡ kind_number k → c < 2 ^ 28 → bit_or (n * 2 ^ 28 % 2 ^ 32) c ≡ word_of (kind_number k) c
-kind_laid n c k e h =
-    ap (λ (x : ℕ). bit_or (x * 2 ^ 28 % 2 ^ 32) c) e
-    ∙ onto 28 c (shl_exact 4 28 32 (kind_small k) (omega arith)) (omega arith) h
+-- a kind's number laid on a content
+pub kind_laid : (n c : ℕ) → n < 2 ^ 4 → c < 2 ^ 28 → bit_or (n * 2 ^ 28 % 2 ^ 32) c ≡ word_of n c
+kind_laid n c k h = onto 28 c (shl_exact 4 28 32 k (omega arith)) (omega arith) h

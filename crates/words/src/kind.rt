@@ -1,5 +1,6 @@
 // The kind of a word: its top four bits.
-ghost use Rattle.std.specs.Prelude.{◌≡◌, ◌<◌, ◌^◌, None, Some, IfNone, IfSome};
+ghost use Rattle.std.specs.Prelude.{◌≡◌, ◌<◌, ◌^◌, None, Some, IfOk, IfErr};
+ghost use Rattle.std.specs.Result.{result_ok};
 ghost use Rattle.words.specs.Field.{kind_of, word_of};
 ghost use Rattle.words.specs.Kinds.{kind_number, kind_named, is_recipe};
 
@@ -32,32 +33,62 @@ impl From<WordKind> for u32 {
     }
 }
 
-// The kind of a word, if its number is one of a kind.
-pub fn kind_of(word: u32) -> Option<WordKind>
-    ensures { result ≡ kind_named (kind_of word) }
-{
-    match word >> 28 {
-        1 => Some(WordKind::Header),
-        2 => Some(WordKind::Prices),
-        3 => Some(WordKind::Source),
-        4 => Some(WordKind::Target),
-        5 => Some(WordKind::Rule),
-        6 => Some(WordKind::Binding),
-        7 => Some(WordKind::Glue),
-        _ => None,
+// A number that is no kind's.
+#[derive(Clone, Copy, PartialEq, Eq)]
+pub struct NoKind;
+
+impl TryFrom<u32> for WordKind {
+    type Error = NoKind;
+
+    ghost try_from_gives = { λ number kind. result_ok kind ≡ kind_named number };
+
+    fn try_from(number: u32) -> Result<WordKind, NoKind> {
+        match number {
+            1 => Ok(WordKind::Header),
+            2 => Ok(WordKind::Prices),
+            3 => Ok(WordKind::Source),
+            4 => Ok(WordKind::Target),
+            5 => Ok(WordKind::Rule),
+            6 => Ok(WordKind::Binding),
+            7 => Ok(WordKind::Glue),
+            _ => Err(NoKind),
+        }
     }
 }
 
-// The word of a kind and a content.
-#[tactic(auto, using(crate::proofs::Named::kind_laid))]
-pub fn word_of(kind: WordKind, content: u32) -> u32
-    requires { content < 2 ^ 28 }
-    ensures { result ≡ word_of (kind_number kind) content }
+// The number of a word's kind, which may be no kind's.
+pub fn kind_of(word: u32) -> u32
+    ensures { result ≡ kind_of word }
 {
-    (u32::from(kind) << 28) | content
+    word >> 28
+}
+
+// The word of a kind's number and a content.
+#[tactic(auto, using(crate::proofs::Named::kind_laid))]
+pub fn word_of(kind: u32, content: u32) -> u32
+    requires { (kind < 2 ^ 4) × (content < 2 ^ 28) }
+    ensures { result ≡ word_of kind content }
+{
+    (kind << 28) | content
 }
 
 impl WordKind {
+    // The kind of a word, if its number is one of a kind.
+    pub fn of(word: u32) -> Option<WordKind>
+        ensures { result ≡ kind_named (kind_of word) }
+    {
+        WordKind::try_from(kind_of(word)).ok()
+    }
+
+    // The word of this kind with a content.
+    #[tactic(auto, using(crate::proofs::Named::kind_small))]
+    pub fn word(self, content: u32) -> u32
+        requires { content < 2 ^ 28 }
+        ensures { result ≡ word_of (kind_number self) content }
+    {
+        word_of(u32::from(self), content)
+    }
+
     // Whether words of this kind hold a recipe.
     #[tactic(auto, unfolding(crate::specs::Kinds::is_recipe))]
     pub fn is_recipe(self) -> bool
@@ -70,14 +101,14 @@ impl WordKind {
     }
 }
 
-// Whether a word holds a recipe.
+// Whether words of the kind of a number hold a recipe.
 #[tactic(auto, using(crate::proofs::Named::is_recipe_named, crate::proofs::Named::is_recipe_unnamed))]
-pub fn is_recipe(word: u32) -> bool
-    ensures { result ≡ is_recipe (kind_of word) }
+pub fn is_recipe(kind: u32) -> bool
+    ensures { result ≡ is_recipe kind }
 {
-    match kind_of(word) {
-        Some(kind) => kind.is_recipe(),
-        None => false,
+    match WordKind::try_from(kind) {
+        Ok(kind) => kind.is_recipe(),
+        Err(_) => false,
     }
 }
 
@@ -89,13 +120,15 @@ pub struct Word {
     pub ghost of_kind: { kind_of bits ≡ kind_number kind },
 }
 
-impl Word {
-    // These bits as a word, if they are one of a kind.
-    pub fn of(bits: u32) -> Option<Word>
-        ensures unnamed { IfNone result (kind_named (kind_of bits) ≡ None) }
-        ensures named { IfSome result (λ word. (word.bits ≡ bits) × (kind_named (kind_of bits) ≡ Some word.kind)) }
-    {
-        let kind = kind_of(bits)?;
-        Some(Word { bits, kind })
+// These bits as a word, if they are one of a kind.
+impl TryFrom<u32> for Word {
+    type Error = NoKind;
+
+    ghost try_from_gives = { λ bits word. (IfErr word (λ _. kind_named (kind_of bits) ≡ None))
+        × IfOk word (λ w. (w.bits ≡ bits) × (kind_named (kind_of bits) ≡ Some w.kind)) };
+
+    fn try_from(bits: u32) -> Result<Word, NoKind> {
+        let kind = WordKind::try_from(kind_of(bits))?;
+        Ok(Word { bits, kind })
     }
 }

@@ -7,8 +7,9 @@ ghost use Rattle.sequence.specs.Limits.{most_mapping_words};
 
 use bench::Bench;
 use commands::Line;
+use console::Failed;
 use sequence::MOST_MAPPING_WORDS;
-use text::Text;
+use text::Said;
 
 // Saves a mapping that was written, if a file is named for it.
 fn save(rt: &HostRuntime, words: &[u32])
@@ -22,45 +23,52 @@ fn save(rt: &HostRuntime, words: &[u32])
     }
 }
 
-// The bench after a line, which is answered. There is none where the answer cannot be printed.
-fn answer(rt: &HostRuntime, bench: Bench, line: Line) -> Option<Bench> {
+// The bench after a line, which is answered.
+fn answer(rt: &HostRuntime, bench: Bench, line: Line) -> Result<Bench, Failed> {
     let command = commands::command_in(line);
     // Kept: lent words and how many were written, as document 01 has a mapping written.
     let mut lent = [0u32; MOST_MAPPING_WORDS];
-    let mut text = Text::new();
+    let mut text = Said::new();
     let worked = bench_answers::work(bench, command, &mut lent, &mut text);
     let printed = console::print(rt, text.as_bytes());
     let words = worked.words;
     save(rt, &lent[..words]);
-    if printed { Some(worked.bench) } else { None }
+    printed?;
+    Ok(worked.bench)
 }
 
-// More bytes than the commands have.
-const MOST: usize = 2305843009213693952;
+// The bench, and the line of a command so far.
+#[derive(Drop)]
+struct Session {
+    bench: Bench,
+    line: Line,
+}
 
-// Reads commands and answers each at its line feed, which the last line may lack; until they end, a read fails or an answer cannot be printed.
-fn work(rt: &HostRuntime, opened: Bench) {
-    let mut bench = opened;
-    let mut line = commands::empty_line();
-    let mut stdin = console::unread();
-    for _ in 0..MOST {
-        let Ok(got) = stdin.next(rt) else {
-            return;
-        };
-        let Some(byte) = got else {
-            answer(rt, bench, line);
-            return;
-        };
+impl Session {
+    // The session after a byte more; a line feed has its line answered.
+    fn with(self, rt: &HostRuntime, byte: u8) -> Result<Session, Failed> {
         if byte != b'\n' {
-            line = commands::with_byte(line, byte);
-            continue;
+            return Ok(Session {
+                bench: self.bench,
+                line: commands::with_byte(self.line, byte),
+            });
         }
-        let Some(next) = answer(rt, bench, line) else {
-            return;
-        };
-        bench = next;
-        line = commands::empty_line();
+        Ok(Session {
+            bench: answer(rt, self.bench, self.line)?,
+            line: commands::empty_line(),
+        })
     }
+}
+
+// Reads commands and answers each at its line feed, which the last line may lack; until they end.
+fn work(rt: &HostRuntime, bench: Bench) -> Result<(), Failed> {
+    let start = Session {
+        bench,
+        line: commands::empty_line(),
+    };
+    let last = console::each_byte(rt, start, |session, byte| session.with(rt, byte))?;
+    answer(rt, last.bench, last.line)?;
+    Ok(())
 }
 
 fn main(rt: HostRuntime) {
@@ -77,19 +85,18 @@ fn main(rt: HostRuntime) {
         example: printf 'bind 50854960\\nprice\\nshow\\n' | work_bench job\n",
     );
     if run {
-        open_and_work(&rt);
+        let _ = open_and_work(&rt);
     }
 }
 
 // Opens the job and works on its bench.
-fn open_and_work(rt: &HostRuntime) {
+fn open_and_work(rt: &HostRuntime) -> Result<(), Failed> {
     let input = input::read_file(rt, 1);
-    let mut text = Text::new();
+    let mut text = Said::new();
     let opened = bench_answers::open(input, &mut text);
-    if !console::print(rt, text.as_bytes()) {
-        return;
-    }
-    if let Some(bench) = opened {
-        work(rt, bench);
+    console::print(rt, text.as_bytes())?;
+    match opened {
+        Some(bench) => work(rt, bench),
+        None => Ok(()),
     }
 }

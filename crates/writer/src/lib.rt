@@ -20,7 +20,7 @@ fn words_needed(sources: usize) -> usize
 pub fn binding_word(word: u32) -> u32
     ensures { result ≡ W.binding_word word }
 {
-    words::word_of(WordKind::Binding, words::content_of(word))
+    WordKind::Binding.word(words::content_of(word))
 }
 
 // Writes the mapping that binds each of these recipes, and answers how many words it has; or refusal 23 with the words needed.
@@ -42,10 +42,10 @@ pub fn write_mapping(
             place: needed,
         });
     }
-    lent[0] = words::word_of(WordKind::Header, width);
+    lent[0] = WordKind::Header.word(width);
     for (i, word) in bound.iter().enumerate() {
         lent[reader::BINDINGS_START + i] = binding_word(*word);
     }
-    lent[reader::BINDINGS_START + bound.len()] = words::word_of(WordKind::Glue, glue);
+    lent[reader::BINDINGS_START + bound.len()] = WordKind::Glue.word(glue);
     Ok(needed)
 }

@@ -4,9 +4,10 @@ use mathlib.Core.List.{◌++◌}
 use Prim.Native.Nat.{◌+◌, ◌*◌, ◌≤◌}
 use Rattle.bench_answers.specs.Answers.{entry_lines}
 use Rattle.listing.specs.Listing.{most_binding_bytes}
-use lib.ListN.{drop, length}
+use lib.ListN.{length}
 use Rattle.bench_answers.proofs.put_entries.Given as goal
 
-abbrev pub invariant-loop-i : goal.invariant-loop-i
-invariant-loop-i l = (l.text ++ entry_lines (drop l.i l.sources) (drop l.i l.bound) ≡ l.initial.text ++ entry_lines l.sources l.bound)
-    × (length l.text ≤ length l.initial.text + most_binding_bytes * l.i)
+abbrev pub invariant-loop-source : goal.invariant-loop-source
+invariant-loop-source g l =
+    (l.text ++ entry_lines l.source-iterator.a.rest.now l.source-iterator.b.rest.now ≡ l.initial.text ++ entry_lines l.sources l.bound)
+    × (length l.text + most_binding_bytes * length l.source-iterator.a.rest.now ≤ length l.initial.text + most_binding_bytes * length l.sources)

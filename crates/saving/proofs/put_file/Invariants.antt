@@ -7,5 +7,5 @@ use Rattle.files.specs.Files.{file_of}
 use Rattle.saving.proofs.put_file.Given as goal
 
 abbrev pub invariant-loop-word : goal.invariant-loop-word
-invariant-loop-word l = (l.file ++ file_of (drop l.word-index l.words) ≡ l.initial.file ++ file_of l.words)
+invariant-loop-word g l = (l.file ++ file_of (drop l.word-index l.words) ≡ l.initial.file ++ file_of l.words)
     × (length l.file ≡ length l.initial.file + 4 * l.word-index)

@@ -6,7 +6,7 @@ use Rattle.describe.proofs.kind.put_prices.Goals as goal
 
 pub returns-clause-text : goal.returns-clause-text
 unfolding prices_text
-returns-clause-text c =
+returns-clause-text g c =
     rw (
       c.put_labelled-3.ensures.text,
       c.put_labelled-2.ensures.text,

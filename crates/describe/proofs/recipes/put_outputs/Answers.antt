@@ -5,5 +5,5 @@ use Rattle.describe.proofs.recipes.put_outputs.Goals as goal
 
 pub returns-clause-text : goal.returns-clause-text
 unfolding outputs_text
-returns-clause-text c =
+returns-clause-text g c =
     rw (c.put_shown-4.ensures.text, c.put_shown-3.ensures.text, c.put_shown-2.ensures.text, c.put_shown.ensures.text) (simp append_assoc)

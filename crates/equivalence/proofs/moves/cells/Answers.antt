@@ -1,9 +1,8 @@
 -- `equivalence::moves::cells` meets its contract.
-use native.Mathlib.Omega.{arith}
-use borrow.Author.Rules.{rules}
-use Rattle.equivalence.specs.Sets.{cell_at}
-use Rattle.equivalence.proofs.Places.{filled}
+use Rattle.std.proofs.Common.{rules}
+use Rattle.equivalence.specs.Sets.{cell_at, no_cell}
+use Rattle.equivalence.proofs.Made.{made_by}
 use Rattle.equivalence.proofs.moves.cells.Goals as goal
 
-pub loop-c-preserved : goal.loop-c-preserved
-loop-c-preserved c = (search rules, filled _ (cell_at c.args.s) c.loop-c.found c.loop-c.c _ (omega arith) c.cell_of.ensures c.loop-c.invariant.1)
+pub returns : goal.returns
+returns c = record { at = made_by _ (cell_at c.args.s) no_cell _ (λ i y q k. search rules) _ 16 c.from_fn.ensures.items }
