@@ -23,7 +23,7 @@ pub struct Bench {
     pub glue: u32,
 }
 
-// Why a call is refused: a number and its place, or refusal 10 with its values.
+// Why a call is refused: a refusal, or 10 with its values.
 #[derive(Clone, Copy)]
 pub enum CallError {
     Refused(Refusal),

@@ -1,2 +1,1 @@
 pub mod Rulings
-pub mod Ruled

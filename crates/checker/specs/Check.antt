@@ -4,12 +4,11 @@ use Rattle.words.specs.Paper.{Paper, refusal, source_place, accepted, told, told
 use Rattle.verdict.specs.Verdicts.{Differs, wrong_paper, Ruling, Gives, Names}
 use Rattle.reader.specs.Starts.{glue_place}
 use Rattle.reader.specs.declared.Mapping.{Mapping}
-use Rattle.table.specs.Parts.{bindings_of, Terms, terms_of}
-use Rattle.fitting.specs.Pair.{pair_of}
+use Rattle.table.specs.Parts.{Terms}
+use Rattle.fitting.specs.Pairing.{Pairing, pairing_of}
 use Rattle.fitting.specs.Fitting.{fit_of}
 use Rattle.checker.specs.declared.CheckError.{CheckError}
 use Rattle.fitting.specs.declared.PairError.{PairError}
-use Rattle.reader.specs.declared.Job.{Job}
 use Rattle.words.specs.declared.Refusal.{Refusal}
 use Rattle.fitting.specs.declared.PairError.TheVariants as pair
 use Rattle.glue.specs.Glue.{glue}
@@ -69,13 +68,12 @@ of_pair (pair.JobRefused r) = JobRefused r
 of_pair (pair.MappingRefused r) = MappingRefused r
 of_pair (pair.Refused r) = Refused r
 
-abbrev pub ruled_of : List ℕ → List ℕ → Result (Job × Mapping) PairError → Ruling (Result ⊤ CheckError)
-ruled_of job_words mapping_words (Err refused) = Gives (Err (of_pair refused))
-ruled_of job_words mapping_words (Ok (job, mapping)) =
-    judgement_of (terms_of job_words job) mapping (bindings_of mapping_words mapping)
+abbrev pub ruled_of : Result Pairing PairError → Ruling (Result ⊤ CheckError)
+ruled_of (Err refused) = Gives (Err (of_pair refused))
+ruled_of (Ok p) = judgement_of p.terms p.mapping p.bindings
 
 unfoldable pub ruling_of : List ℕ → List ℕ → Ruling (Result ⊤ CheckError)
-ruling_of job_words mapping_words = ruled_of job_words mapping_words (pair_of job_words mapping_words)
+ruling_of job_words mapping_words = ruled_of (pairing_of job_words mapping_words)
 
 -- what the checker's answer to a job and a mapping is
 abbrev pub Checks : List ℕ → List ℕ → Result ⊤ CheckError → Type 0

@@ -84,7 +84,7 @@ fn judge_mapping(pair: &Pair) -> Result<(), CheckError>
 }
 
 // The words of a job and of a mapping.
-#[tactic(auto, using(crate::proofs::Ruled::none_judged, crate::proofs::Ruled::pair_judged))]
+#[tactic(auto, unfolding(crate::specs::Check::ruling_of))]
 pub fn check(job: &[u32], mapping: &[u32]) -> Result<(), CheckError>
     ensures { C.Checks job.now mapping.now result }
 {

@@ -11,6 +11,7 @@ use Rattle.reader.specs.declared.Job.{Job}
 use Rattle.reader.specs.declared.Mapping.{Mapping}
 use Rattle.table.specs.Parts.{terms_of}
 use Rattle.fitting.specs.Pair.{pair_of}
+use Rattle.fitting.specs.Pairing.{paired}
 use Rattle.std.specs.Prelude.{Result, Ok, Err, ⊤}
 use Rattle.checker.specs.declared.CheckError.{CheckError}
 use Rattle.fitting.specs.declared.PairError.{PairError}
@@ -20,7 +21,7 @@ use Rattle.demands.specs.Mapped.{source_at, Fitting, Bound, Complete, RightAt, R
 use Rattle.demands.proofs.ByIndex.{fitted, accepting, accepted_judged, lowest_unbound, lowest_wrong}
 use Rattle.demands.proofs.Papers.{accepted_paper}
 
-accepted_pair : (jw mw : List ℕ) (p : Result (Job × Mapping) PairError) → pair_of jw mw ≡ p → CheckRuled (ruled_of jw mw p) (Ok tt) → RightlyMapped jw mw
+accepted_pair : (jw mw : List ℕ) (p : Result (Job × Mapping) PairError) → pair_of jw mw ≡ p → CheckRuled (ruled_of (paired jw mw p)) (Ok tt) → RightlyMapped jw mw
 accepted_pair jw mw (Ok (j, m)) e h = let r = of_pair jw mw j m e in accepted_judged jw mw j m r.0 r.1 h
 accepted_pair jw mw (Err x) e h = absurd (let z : ◌≡◌ {A = ℕ} 0 1 = cc in omega arith)
 

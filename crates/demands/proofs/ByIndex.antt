@@ -28,6 +28,8 @@ use Rattle.wellformed.proofs.MappingWords as mappings
 use Rattle.table.specs.Parts.{sources_of, bindings_of, Terms, terms_of}
 use Rattle.claims.specs.Claim.{claim_in}
 use Rattle.fitting.specs.Fitting.{fit_of}
+use Rattle.fitting.specs.Pairing.{paired}
+use Rattle.fitting.specs.declared.PairError.{PairError}
 use Rattle.checker.specs.declared.CheckError.{CheckError}
 use Rattle.words.specs.declared.Refusal.{Refusal}
 use Rattle.fitting.proofs.Pairs.{pair_read}
@@ -134,7 +136,7 @@ module _ (jw mw : List ℕ) (j : Job) (m : Mapping) (ej : WellFormedJob jw j) (e
 
   judged : ruling_of jw mw ≡ judgement_of t m bindings
   unfolding ruling_of
-  judged = ap (ruled_of jw mw) (pair_read jw mw j m ej em)
+  judged = ap (λ (q : Result (Job × Mapping) PairError). ruled_of (paired jw mw q)) (pair_read jw mw j m ej em)
 
   abbrev fit : Result ⊤ Refusal
   fit = fit_of t m bindings

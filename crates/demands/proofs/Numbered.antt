@@ -44,6 +44,7 @@ use Rattle.reader.specs.Job.{job_of}
 use Rattle.reader.specs.Mapping.{mapping_of}
 use Rattle.wellformed.proofs.Numbers.{job_number, mapping_number}
 use Rattle.fitting.specs.Pair.{pair_of, with_job}
+use Rattle.fitting.specs.Pairing.{paired}
 use Rattle.demands.specs.Answers.{among, OneNumber, judge_numbers, read_numbers, check_numbers, bind_numbers, judge_accepts}
 use Rattle.words.specs.declared.Fault.TheVariants.{AlreadyBound, NotInJob, NotLaidOut, NotSound, OtherOutputs, OtherWidth, OutOfSequence, ReadsUndriven}
 
@@ -188,7 +189,7 @@ pub check_number : (jw mw : List ℕ) → Checking (ruling_of jw mw)
 unfolding ruling_of pair_of
 check_number jw mw = go (job_of jw) refl (mapping_of mw) refl
   where
-    go : (j : Result Job Refusal) → job_of jw ≡ j → (m : Result Mapping Refusal) → mapping_of mw ≡ m → Checking (ruled_of jw mw (with_job j m))
+    go : (j : Result Job Refusal) → job_of jw ≡ j → (m : Result Mapping Refusal) → mapping_of mw ≡ m → Checking (ruled_of (paired jw mw (with_job j m)))
     go (Err r) e m f =
         check_gives (Err (checked.JobRefused r)) (of_reading (7 ∷ 8 ∷ 9 ∷ 10 ∷ 11 ∷ []) (number_of r.fault) (job_number r jw e))
     go (Ok j) e (Err r) f =

@@ -39,6 +39,7 @@ use Rattle.reader.specs.Mapping.{mapping_of}
 use Rattle.reader.specs.Mapping as mapping-reader
 use Rattle.wellformed.proofs.Numbers.{job_number, mapping_number}
 use Rattle.fitting.specs.Pair.{pair_of, with_job}
+use Rattle.fitting.specs.Pairing.{paired}
 use Rattle.pricer.specs.Pricing.{counted, priced_pair, pricing_of}
 use Rattle.pricer.specs.Pricing as pricer
 use Rattle.writer.specs.Write.{words_needed, written_of}
@@ -98,7 +99,7 @@ unfolding pricing_of pair_of
 price_answers jw mw = one_answer is_ok pricer.paper_of price_numbers (pricing_of jw mw) (go (job_of jw) refl (mapping_of mw) refl)
   where
     go : (j : Result Job Refusal) → job_of jw ≡ j → (m : Result Mapping Refusal) → mapping_of mw ≡ m
-        → Listed is_ok pricer.paper_of price_numbers (priced_pair jw mw (with_job j m))
+        → Listed is_ok pricer.paper_of price_numbers (priced_pair (paired jw mw (with_job j m)))
     go (Err r) e m f = of_reading (7 ∷ 8 ∷ []) (number_of r.fault) (job_number r jw e)
     go (Ok j) e (Err r) f = of_reading (7 ∷ 8 ∷ []) (number_of r.fault) (mapping_number r mw f)
     go (Ok j) e (Ok m) f =

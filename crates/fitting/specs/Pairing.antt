@@ -27,5 +27,5 @@ paired job_words mapping_words (Ok (job, mapping)) =
     Ok (record { terms = terms_of job_words job; mapping = mapping; bindings = bindings_of mapping_words mapping })
 
 -- the pair that is read from the words of a job and of a mapping, or the first refusal, 1 to 6
-unfoldable pub pairing_of : List ℕ → List ℕ → Result Pairing PairError
+abbrev pub pairing_of : List ℕ → List ℕ → Result Pairing PairError
 pairing_of job_words mapping_words = paired job_words mapping_words (pair_of job_words mapping_words)

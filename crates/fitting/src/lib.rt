@@ -49,7 +49,7 @@ pub struct Pair<'a> {
 
 impl<'a> Pair<'a> {
     // Reads the words of a job and of a mapping, or gives the first refusal, 1 to 6.
-    #[tactic(auto, using(crate::proofs::Pairs::job_read, crate::proofs::Pairs::mapping_read), unfolding(crate::specs::Pairing::pairing_of))]
+    #[tactic(auto, using(crate::proofs::Pairs::job_read, crate::proofs::Pairs::mapping_read))]
     pub fn read(job: &'a [u32], mapping: &'a [u32]) -> Result<Pair<'a>, PairError>
         ensures { Q.held_of result ≡ Q.pairing_of job.now mapping.now }
     {

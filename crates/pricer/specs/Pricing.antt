@@ -4,8 +4,8 @@ use Rattle.std.specs.Prelude.{ℕ, List, [], ◌∷◌, Result, Ok, Err, ⊤}
 use Rattle.words.specs.Paper.{Paper, accepted, told, told_of_job, told_of_mapping}
 use Rattle.reader.specs.declared.Job.{Job}
 use Rattle.reader.specs.declared.Mapping.{Mapping}
-use Rattle.table.specs.Parts.{bindings_of, Terms, terms_of}
-use Rattle.fitting.specs.Pair.{pair_of}
+use Rattle.table.specs.Parts.{Terms}
+use Rattle.fitting.specs.Pairing.{Pairing, pairing_of}
 use Rattle.fitting.specs.Fitting.{fit_of}
 use Rattle.fitting.specs.declared.PairError.{PairError}
 use Rattle.words.specs.declared.Refusal.{Refusal}
@@ -24,14 +24,13 @@ counted (Ok tt) count = Ok count
 abbrev pub priced_under : Terms → Mapping → List ℕ → Result ℕ PairError
 priced_under t mapping bindings = counted (fit_of t mapping bindings) (glue t.width t.prices bindings)
 
-abbrev pub priced_pair : List ℕ → List ℕ → Result (Job × Mapping) PairError → Result ℕ PairError
-priced_pair job_words mapping_words (Err refused) = Err refused
-priced_pair job_words mapping_words (Ok (job, mapping)) =
-    priced_under (terms_of job_words job) mapping (bindings_of mapping_words mapping)
+abbrev pub priced_pair : Result Pairing PairError → Result ℕ PairError
+priced_pair (Err refused) = Err refused
+priced_pair (Ok p) = priced_under p.terms p.mapping p.bindings
 
 -- "1 first; then word by word, 2 to 6 in each; then 7 to 11"
 unfoldable pub pricing_of : List ℕ → List ℕ → Result ℕ PairError
-pricing_of job_words mapping_words = priced_pair job_words mapping_words (pair_of job_words mapping_words)
+pricing_of job_words mapping_words = priced_pair (pairing_of job_words mapping_words)
 
 -- the answer in document 01's numbers
 abbrev pub paper_of : Result ℕ PairError → Paper

@@ -27,7 +27,7 @@ fn price_under(pair: &Pair) -> Result<u32, PairError>
 }
 
 // The glue count of a mapping's bindings; or the first refusal, of the job or of the mapping by itself, or of the mapping as the job's.
-#[tactic(auto, using(crate::proofs::Priced::none_priced, crate::proofs::Priced::pair_priced))]
+#[tactic(auto, unfolding(crate::specs::Pricing::pricing_of))]
 pub fn price(job: &[u32], mapping: &[u32]) -> Result<u32, PairError>
     ensures { result ≡ P.pricing_of job.now mapping.now }
 {
