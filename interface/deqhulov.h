@@ -53,9 +53,10 @@ enum deqhulov_refusal {
 uint32_t deqhulov_evaluate(uint32_t function, uint32_t width, uint64_t left, uint64_t right, uint32_t carry,
                            uint64_t *place, uint64_t *out, size_t out_length);
 
-/* Judges a recipe word (kind 5 or 6) at a width. Refusals: 2, 3, 5, 6 of the word, place 0; 3 of the width, place 1; and 10, with four
- * values: the port, left, right and carry at which the recipe differs from its source function. */
-uint32_t deqhulov_judge(uint32_t word, uint32_t width,
+/* Judges a recipe word (kind 5 or 6) at a width, its target plain (mark 0) or negated (mark 1). Refusals: 2, 3, 5, 6 of the word, place 0;
+ * 3 of the width, place 1, and of the mark, place 2; and 10, with four values: the port, left, right and carry at which the recipe differs
+ * from its source function. */
+uint32_t deqhulov_judge(uint32_t word, uint32_t width, uint32_t mark,
                         uint64_t *place, uint64_t *out, size_t out_length);
 
 /* Maps a job into lent words. Value: how many words were written. Refusals: 1 to 6, 12, 23; then no lent word is touched. */

@@ -4,7 +4,7 @@
 mod c {
     extern "C" {
         pub fn deqhulov_evaluate(function: u32, width: u32, left: u64, right: u64, carry: u32, place: *mut u64, out: *mut u64, out_length: usize) -> u32;
-        pub fn deqhulov_judge(word: u32, width: u32, place: *mut u64, out: *mut u64, out_length: usize) -> u32;
+        pub fn deqhulov_judge(word: u32, width: u32, mark: u32, place: *mut u64, out: *mut u64, out_length: usize) -> u32;
         pub fn deqhulov_map(job: *const u32, job_length: usize, lent: *mut u32, lent_length: usize, place: *mut u64, out: *mut u64, out_length: usize) -> u32;
         pub fn deqhulov_price(job: *const u32, job_length: usize, mapping: *const u32, mapping_length: usize, place: *mut u64, out: *mut u64, out_length: usize) -> u32;
         pub fn deqhulov_check(job: *const u32, job_length: usize, mapping: *const u32, mapping_length: usize, place: *mut u64, out: *mut u64, out_length: usize) -> u32;
@@ -62,9 +62,10 @@ pub fn evaluate(function: u32, width: u32, left: u64, right: u64, carry: u32) ->
         .map(|[o0, ocout, ovf, o1]| Ports { o0, ocout: ocout == 1, ovf: ovf == 1, o1: o1 == 1 })
 }
 
-/// Judges a recipe word at a width: right, or refused; 10 with the port, left, right and carry at which it differs.
-pub fn judge(word: u32, width: u32) -> Result<(), Refusal> {
-    told(|place, values| unsafe { c::deqhulov_judge(word, width, place, values.as_mut_ptr(), VALUES) }).map(|_| ())
+/// Judges a recipe word at a width, its target plain (mark 0) or negated (mark 1): right, or refused; 10 with the port, left, right and carry
+/// at which it differs.
+pub fn judge(word: u32, width: u32, mark: u32) -> Result<(), Refusal> {
+    told(|place, values| unsafe { c::deqhulov_judge(word, width, mark, place, values.as_mut_ptr(), VALUES) }).map(|_| ())
 }
 
 /// Maps a job into lent words, and answers how many were written.

@@ -26,7 +26,7 @@ int main(void) {
     number = deqhulov_check(job, job_length, mapping, words, &place, values, DEQHULOV_VALUES);
     printf("%s\n", number == DEQHULOV_ACCEPTED ? "accepted" : "refused");
 
-    number = deqhulov_judge(0x5C894407, 16, &place, values, DEQHULOV_VALUES);
+    number = deqhulov_judge(0x5C894407, 16, 0, &place, values, DEQHULOV_VALUES);
     printf("5C894407 at width 16: %u at function %llu, port %llu\n", number, (unsigned long long)place,
            (unsigned long long)values[0]);
     if (number != DEQHULOV_WRONG_RECIPE)

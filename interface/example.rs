@@ -26,9 +26,13 @@ fn main() {
     // a mapping without words is the mapping's refusal, not the job's
     assert_eq!(deqhulov::price(&JOB, &[]).unwrap_err(), deqhulov::Refusal { number: 1, place: 0, values: [1, 0, 0, 0] });
 
-    let refusal = deqhulov::judge(0x5C894407, 16).unwrap_err();
+    let refusal = deqhulov::judge(0x5C894407, 16, 0).unwrap_err();
     assert_eq!((refusal.number, refusal.place, refusal.values[0]), (deqhulov::WRONG_RECIPE, 25, deqhulov::O1));
     println!("5C894407 at width 16: {} at function {}, port {}", refusal.number, refusal.place, refusal.values[0]);
+
+    // NAND as the main output of AND: right only of a negated AND. No mark is above 1
+    assert!(deqhulov::judge(0x54A14100, 16, 0).is_err() && deqhulov::judge(0x54A14100, 16, 1).is_ok());
+    assert_eq!(deqhulov::judge(0x54A14100, 16, 2).unwrap_err(), deqhulov::Refusal { number: 3, place: 2, values: [0; 4] });
 
     // ADD at width 8: 127 + 1 overflows
     let ports = deqhulov::evaluate(1, 8, 127, 1, 0).expect("in range");

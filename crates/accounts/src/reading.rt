@@ -1,7 +1,7 @@
 // A reader of jobs and mappings: a table of which kind may follow which, a count of the words of the same kind before, and the
 // recipes' refusals.
 use reference::answer::{Refusal, Subject, refused};
-use reference::recipe::fields_of;
+use reference::recipe::{Recipe, fields_of};
 use reference::refusal::recipe_fits;
 use testing::kinds::{Kind, kind_of};
 use testing::words::{at, content};
@@ -36,11 +36,30 @@ pub enum File {
     Mapping,
 }
 
-// The function of a source or target word, or of a recipe's source.
+// The function of a source or target word, or of a recipe's source. A target's mark stands above its function.
 pub fn function(word: u32) -> u32 {
     match kind_of(word) {
         Some(Kind::Rule | Kind::Binding) => fields_of(word).source,
+        Some(Kind::Target) => word % 32,
         _ => content(word),
+    }
+}
+
+// The index of the word of a kind for a function.
+pub fn index_of(words: &[u32], of: Kind, function_sought: u32) -> Option<usize> {
+    words.iter().position(|word| (kind_of(*word) == Some(of))
+        & (function(*word) == function_sought))
+}
+
+// A recipe whose target is negated where one of these words says so.
+pub fn recipe_in(words: &[u32], word: u32) -> Recipe {
+    let marked = match index_of(words, Kind::Target, fields_of(word).target) {
+        Some(index) => at(words, index) / 32 % 2,
+        None => 0,
+    };
+    Recipe {
+        word,
+        negated: marked == 1,
     }
 }
 
@@ -87,7 +106,8 @@ fn content_fits(file: File, of: Kind, word: u32) -> Result<(), u32> {
     let bad = match of {
         Kind::Header => (rest >= room) | (rest % 128 == 0) | (rest % 128 > 64),
         Kind::Prices => rest > 0xff_ffff,
-        Kind::Source | Kind::Target => (rest == 0) | (rest > 27),
+        Kind::Source => (rest == 0) | (rest > 27),
+        Kind::Target => (rest > 63) | (rest % 32 == 0) | (rest % 32 > 27),
         Kind::Rule | Kind::Binding => return recipe_fits(word),
         Kind::Glue => false,
     };

@@ -1,6 +1,7 @@
 // Which benches are sound, entry by entry: each entry of a table by the word before it, each bound word by what the reference shows, and
 // the stored count by the second count.
 use crate::glue::{Costs, glue_count};
+use crate::reading::{function, index_of, recipe_in};
 use reference::recipe::fields_of;
 use reference::refusal::refusal_of;
 use reference::trial::is_right;
@@ -48,21 +49,27 @@ impl Table {
         }
     }
 
-    // The index of a word.
-    pub fn entry_of(&self, word: u32) -> Option<usize> {
-        self.words.iter().position(|entry| *entry == word)
+    // The index of the word of a kind for a function.
+    pub fn entry_of(&self, of: Kind, function: u32) -> Option<usize> {
+        index_of(&self.words, of, function)
     }
 
-    // So many words of a kind that rise, and zeros after them.
+    // So many words of a kind whose functions rise, with nothing above them but a target's mark; and zeros after them.
     fn fits(&self, of: Kind) -> bool {
-        let mut last = of.word(0);
+        let room = if of == Kind::Target { 64 } else { 32 };
+        let mut last = 0;
         for (i, word) in self.words.iter().enumerate() {
             let word = *word;
             if i < self.count as usize {
-                if (kind_of(word) != Some(of)) | (content(word) > 27) | (word <= last) {
+                let next = function(word);
+                if (kind_of(word) != Some(of))
+                    | (content(word) >= room)
+                    | (next > 27)
+                    | (next <= last)
+                {
                     return false;
                 }
-                last = word;
+                last = next;
             } else if word != 0 {
                 return false;
             }
@@ -90,10 +97,7 @@ impl BenchWords {
     // With a rule bound, if its source is one of the bench's.
     pub fn with_rule(self, rule: u32) -> BenchWords {
         let mut bench = self;
-        if let Some(entry) = self
-            .sources
-            .entry_of(Kind::Source.word(fields_of(rule).source))
-        {
+        if let Some(entry) = self.sources.entry_of(Kind::Source, fields_of(rule).source) {
             put(&mut bench.bound, entry, rule);
         }
         bench
@@ -123,18 +127,18 @@ impl BenchWords {
     // A right rule of the source in an entry, from scratch or from a target of the table.
     fn may_bind(&self, word: u32, entry: usize) -> bool {
         let fields = fields_of(word);
-        if (kind_of(word) != Some(Kind::Rule)) | refusal_of(word, self.width).is_some() {
+        if (kind_of(word) != Some(Kind::Rule)) | refusal_of(word, self.width, 0).is_some() {
             return false;
         }
         let source = Kind::Source.word(fields.source);
         if (entry >= self.sources.count as usize) | (source != at(&self.sources.words, entry)) {
             return false;
         }
-        let target = Kind::Target.word(fields.target);
-        if (fields.target != 0) & self.targets.entry_of(target).is_none() {
+        let target = fields.target;
+        if (target != 0) & self.targets.entry_of(Kind::Target, target).is_none() {
             return false;
         }
-        is_right(word, self.width)
+        is_right(recipe_in(&self.targets.words, word), self.width)
     }
 
     pub fn is_sound(&self) -> bool {

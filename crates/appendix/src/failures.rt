@@ -1,6 +1,6 @@
 // Records that do not show what their source function shows, each at the least left, right and carry where it does not.
 use crate::judged::is_answer;
-use crate::shown::{Narrow, by_library, by_reference};
+use crate::shown::{Narrow, by_library, by_reference, plain};
 use reference::evaluator::Operands;
 use reference::recipe::{Port, first_difference};
 use reference::trial::ones;
@@ -25,7 +25,7 @@ fn first_failure(word: u32, width: Narrow) -> Option<(Operands, Port)> {
     let n = width.n;
     for i in 0..2u64 << (2 * n) {
         let at = operands_at(width, i);
-        if let Ok(Some(port)) = first_difference(word, n, at) {
+        if let Ok(Some(port)) = first_difference(plain(word), n, at) {
             return Some((at, port));
         }
     }
@@ -52,7 +52,7 @@ fn show_failure(
     };
     let told = by_library(word, width, at);
     let second = by_reference(word, n, at);
-    let answer = told::judged(word, n);
+    let answer = told::judged(word, n, 0);
     let _ = print!(rt;
         " left {} right {} carry {} port ",
         at.left, at.right, at.carry

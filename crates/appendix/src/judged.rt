@@ -14,7 +14,7 @@ pub fn is_answer(answer: Result<(), Refusal>, number: Option<u32>) -> bool {
 // A word judged at each width.
 fn judge_everywhere(tally: &mut Tally, word: u32, expected: Option<u32>) {
     for n in 1..65 {
-        tally.count(is_answer(told::judged(word, n), expected));
+        tally.count(is_answer(told::judged(word, n, 0), expected));
     }
 }
 

@@ -3,7 +3,7 @@ ghost use Rattle.std.specs.Prelude.{◌≤◌};
 
 use bits::Width;
 use reference::evaluator::{Operands, Shown, evaluate};
-use reference::recipe::{Port, fields_of, recipe_shows};
+use reference::recipe::{Port, Recipe, fields_of, recipe_shows};
 
 #[derive(Clone, Copy, PartialEq, Eq)]
 pub struct Both {
@@ -25,10 +25,16 @@ pub struct Narrow {
     pub ghost within: { (1 ≤ n) × (n ≤ 8) },
 }
 
+// The report has no negated targets.
+pub fn plain(word: u32) -> Recipe {
+    let negated = false;
+    Recipe { word, negated }
+}
+
 pub fn by_reference(word: u32, n: u32, at: Operands) -> Both {
     Both {
         source: evaluate(fields_of(word).source, n, at),
-        recipe: recipe_shows(word, n, at),
+        recipe: recipe_shows(plain(word), n, at),
     }
 }
 
@@ -39,7 +45,7 @@ pub fn by_library(word: u32, narrow: Narrow, at: Operands) -> Both {
     if (at.left > most) || (at.right > most) {
         return by_reference(0, 0, at);
     }
-    let claim = binding::claim_of(word);
+    let claim = binding::claim_against(false, word);
     let source = claim.source;
     let recipe = claim.recipe;
     let operands = bits::Operands {

@@ -1,6 +1,6 @@
 // The book's rules tried by the reference, whole at small widths, above at corner operands and random ones.
 use crate::failures::operands_at;
-use crate::shown::Narrow;
+use crate::shown::{Narrow, plain};
 use reference::evaluator::Operands;
 use reference::recipe::first_difference;
 use reference::trial::{next, sampled};
@@ -29,7 +29,7 @@ fn operands_of(n: u32, i: u32, seed: u64) -> Operands {
 fn try_rule(tally: &mut Tally, word: u32, n: u32) {
     let mut x = next((word as u64) ^ ((n as u64) << 40));
     for i in 0..trials(n) {
-        tally.count(first_difference(word, n, operands_of(n, i, x)) == Ok(None));
+        tally.count(first_difference(plain(word), n, operands_of(n, i, x)) == Ok(None));
         x = next(next(next(x)));
     }
 }

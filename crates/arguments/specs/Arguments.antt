@@ -1,5 +1,5 @@
 -- What the programs' arguments mean.
-use Rattle.std.specs.Prelude.{ℕ, Option, None, Some, ◌+◌, ◌-◌, ◌*◌, ◌≤◌, Bool, true, false, ⊤, ◌&&◌, List, [], ◌∷◌, leb, if◌then◌else◌}
+use Rattle.std.specs.Prelude.{ℕ, Option, None, Some, ◌+◌, ◌-◌, ◌*◌, ◌≤◌, Bool, true, false, ⊤, ◌&&◌, List, [], ◌∷◌, leb, ltb, if◌then◌else◌}
 use Rattle.std.specs.Option.{option_and_then}
 use Rattle.std.specs.Str.{bytes_eq}
 use Rattle.alu.specs.Range.{is_width}
@@ -9,6 +9,14 @@ use Rattle.arguments.specs.declared.Widths.TheVariants.{At, All}
 
 abbrev pub is_help : List ℕ → Bool
 is_help argument = bytes_eq argument (bytes "--help")
+
+-- judge_rule's second argument, of so many with the program's own name: where there is none targets are plain, and negated where it says
+-- so; nothing else is understood
+unfoldable pub negated_in : ℕ → List ℕ → Option Bool
+negated_in count argument =
+    if ltb count 3 then Some false
+    else if bytes_eq argument (bytes "negated") then Some true
+    else None
 
 -- a program was called with a number of arguments that it takes, its own name among them; the number is the system's choice
 pub record TakenBy (fewest most : ℕ) : Type 0 where

@@ -108,6 +108,20 @@ pub fn may_run(rt: &HostRuntime, fewest: usize, most: usize, usage: &[u8], help:
     true
 }
 
+// Whether judge_rule's second argument, of so many, says that targets are negated. Where there is none they are plain.
+#[tactic(auto, unfolding(crate::specs::Arguments::negated_in))]
+pub fn negated_in(count: usize, argument: &[u8]) -> Option<bool>
+    ensures { result ≡ W.negated_in count argument.now }
+{
+    if count < 3 {
+        return Some(false);
+    }
+    if argument == b"negated".as_slice() {
+        return Some(true);
+    }
+    None
+}
+
 // The value of a decimal digit.
 #[tactic(auto, unfolding(crate::specs::Arguments::decimal_digit))]
 fn decimal_digit(byte: u8) -> Option<u32>

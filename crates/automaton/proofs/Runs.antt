@@ -9,11 +9,11 @@ use lib.Dec.{eqb}
 use lib.Pow.{pow_pos}
 use borrow.Author.Tests.{eq-eqb, ne_eqb, eqb-true, eqb-false, not-true, not-false}
 use Rattle.words.proofs.Choices.{and_split, and_join, beq-true, beq-refl}
-use Rattle.bits.specs.Bits.{num, bit, word}
+use Rattle.bits.specs.Bits.{num, bit, exor, word}
 use Rattle.bits.specs.Wiring.{carried}
 use Rattle.bits.specs.declared.Ports.{Ports}
 use Rattle.bits.proofs.Words.{pow2, word_lt, word-ext, word-bits, same, same_word, word_same, top-word, word-not, word-zeros}
-use Rattle.binding.specs.Binding.{side_shows, shows}
+use Rattle.binding.specs.Binding.{as_marked, side_shows, shows}
 use Rattle.output.specs.Output.{outputs_show, shown_bit, shown_word, shown_comparison}
 use Rattle.binding.specs.Right.{Agrees}
 use Rattle.binding.specs.declared.Side.{Side}
@@ -71,6 +71,13 @@ four a a' b b' d d' e e' h =
     let r = and_split (beq d d') (beq e e') q.1 in
     (beq-true a a' p.0, beq-true b b' q.0, beq-true d d' r.0, beq-true e e' r.1)
 
+-- what comes out complemented is complemented place by place
+marked-word : (b : Bool) (n : ℕ) (h : ℕ → Bool) (c v o : Bool)
+    → as_marked b n (record { o0 = word n h; ocout = c; ovf = v; o1 = o })
+    ≡ record { o0 = word n (λ i. exor b (h i)); ocout = c; ovf = v; o1 = exor b o }
+marked-word true n h c v o = λ i. record { o0 = sym (word-not n h) i; ocout = c; ovf = v; o1 = not o }
+marked-word false n h c v o = refl
+
 -- ---- the machine's run over the bits f and g
 module _ (s : Side) (t : Recipe) (f g : ℕ → Bool) (c : Bool) where
   state_at : ℕ → State
@@ -105,7 +112,8 @@ module _ (s : Side) (t : Recipe) (f g : ℕ → Bool) (c : Bool) where
   unfolding side_shows side bits
   side_word r k =
       rw (wired-word (suc k) r.left f g, wired-word (suc k) r.right f g)
-      (ports-word r.kind k (λ j. wire r.left (f j) (g j)) (λ j. wire r.right (f j) (g j)) (carried r.carry c))
+      (ap (as_marked r.negated (suc k)) (ports-word r.kind k (λ j. wire r.left (f j) (g j)) (λ j. wire r.right (f j) (g j)) (carried r.carry c))
+      ∙ marked-word r.negated (suc k) _ _ _ _)
 
   recipe_word : (k : ℕ) → shows t (suc k) (word (suc k) f) (word (suc k) g) c
       ≡ record {

@@ -82,7 +82,7 @@ cell k a x y =
       order = top_order k a x y;
     }
 
--- ---- the same of a side, at the bits x and y of left and right
+-- ---- the same of a side, at the bits x and y of left and right; of a negated one each bit of O0, and O1, are complemented
 
 abbrev pub side_start : Side → Bool → Ripple
 side_start s c = start s.kind (carried s.carry c)
@@ -91,7 +91,7 @@ abbrev pub side_step : Side → Ripple → Bool → Bool → Ripple
 side_step s a x y = step s.kind a (wire s.left x y) (wire s.right x y)
 
 abbrev pub side_bit : Side → Ripple → Bool → Bool → Bool
-side_bit s a x y = out_bit s.kind a (wire s.left x y) (wire s.right x y)
+side_bit s a x y = exor s.negated (out_bit s.kind a (wire s.left x y) (wire s.right x y))
 
 abbrev pub side_carry : Side → Ripple → Bool → Bool → Bool
 side_carry s a x y = top_carry s.kind a (wire s.left x y) (wire s.right x y)
@@ -100,4 +100,4 @@ abbrev pub side_overflow : Side → Ripple → Bool → Bool → Bool
 side_overflow s a x y = top_overflow s.kind a (wire s.left x y) (wire s.right x y)
 
 abbrev pub side_order : Side → Ripple → Bool → Bool → Bool
-side_order s a x y = top_order s.kind a (wire s.left x y) (wire s.right x y)
+side_order s a x y = exor s.negated (top_order s.kind a (wire s.left x y) (wire s.right x y))

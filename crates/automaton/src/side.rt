@@ -1,4 +1,4 @@
-// One place of a side: the function's inputs are wired from the bits of left and right.
+// One place of a side: the function's inputs are wired from the bits of left and right, and what it shows may be negated.
 ghost use Rattle.std.specs.Prelude.{◌≡◌};
 ghost use Rattle.automaton.specs.Place as P;
 ghost use Rattle.automaton.specs.Machine as M;
@@ -18,10 +18,15 @@ pub fn cell_of(s: Side, a: Ripple, x: bool, y: bool) -> Cell
     ensures { result ≡ M.cell_of s a x y }
 {
     let kind = s.kind;
-    place::cell(
+    let cell = place::cell(
         kind,
         a,
         place::wire(s.left, x, y),
         place::wire(s.right, x, y),
-    )
+    );
+    Cell {
+        bit: s.negated ^ cell.bit,
+        order: s.negated ^ cell.order,
+        ..cell
+    }
 }

@@ -1,10 +1,11 @@
 // The bench's calls, on benches as the second account has them. Here alone a bench and its answers are taken apart.
+use accounts::reading::recipe_in;
 use accounts::sound;
 use accounts::sound::{BenchWords, Table};
 use bench::{After, Bench, CallError};
 use reference::answer::{Answer, Given, Subject};
 use soundness::Tables;
-use testing::words::{JOB, LENT, MAPPING, lent_holds};
+use testing::words::{LENT, MAPPING, first, lent_holds};
 use words::Prices;
 
 fn bench_of(words: BenchWords) -> Bench {
@@ -57,11 +58,12 @@ fn words_of(bench: Bench) -> BenchWords {
     }
 }
 
-// The answer to a call with a rule, 0 where it has none, on a bench of a width.
-fn answer_of(answer: Result<Given, CallError>, rule: u32, n: u32) -> Answer {
+// The answer to a call with a rule, 0 where it has none, on a bench.
+fn answer_of(answer: Result<Given, CallError>, rule: u32, bench: &BenchWords) -> Answer {
+    let recipe = recipe_in(&bench.targets.words, rule);
     answer.map_err(|error| match error {
         CallError::Refused(refusal) => told::refusal_of(Subject::Word, refusal),
-        CallError::Wrong(witness) => told::wrong_of(rule, n, witness),
+        CallError::Wrong(witness) => told::wrong_of(recipe, bench.width, witness),
     })
 }
 
@@ -78,7 +80,7 @@ pub struct Told {
 fn told_by(bench: Bench, answer: Result<Given, CallError>, lent: &[u32], rule: u32) -> Told {
     let bench = words_of(bench);
     Told {
-        answer: answer_of(answer, rule, bench.width),
+        answer: answer_of(answer, rule, &bench),
         bench,
         untouched: lent_holds(lent, &[]),
         printed: lent_holds(lent, &MAPPING),
@@ -122,10 +124,17 @@ pub fn finish(words: BenchWords, size: usize) -> Told {
     finish_into(words, &mut lent[..size.min(32)])
 }
 
-// Whether the checker accepts the words that a bench of the printed job writes.
-pub fn is_accepted(words: BenchWords) -> bool {
-    let bench = bench_of(words);
-    let mut lent = [LENT; 6];
-    let after = bench.finish(&mut lent);
-    checker::check(&JOB, &lent).is_ok()
+// Whether a bench finishes with a mapping, and writes nothing past it.
+pub fn writes(words: BenchWords, mapping: &[u32]) -> bool {
+    let mut lent = [LENT; 32];
+    let after = bench_of(words).finish(&mut lent);
+    after.answer.is_ok_and(|size| size == mapping.len()) & lent_holds(&lent, mapping)
+}
+
+// Whether the checker accepts the words that a bench writes as a job's.
+pub fn is_accepted(words: BenchWords, job: &[u32]) -> bool {
+    let mut lent = [LENT; 32];
+    let after = bench_of(words).finish(&mut lent);
+    let size = after.answer.unwrap_or(0);
+    checker::check(job, first(&lent, size)).is_ok()
 }

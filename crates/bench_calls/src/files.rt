@@ -1,7 +1,7 @@
-// The rules of the mapping that document 01 prints, and benches put together without the library.
+// The rules of the mapping that document 01 prints, a job with negated targets, and benches put together without the library.
 use accounts::sound::{BenchWords, Prices, Table};
 use testing::kinds::Kind;
-use testing::words::{JOB, after, first, word_of};
+use testing::words::{JOB, MARK, after, first, word_of};
 
 // In the order of the printed job's sources.
 pub const ADD_RULE: u32 = 0x5085_4960;
@@ -17,6 +17,30 @@ pub const RULES: [u32; 4] = [ADD_RULE, RSUB_RULE, AND_RULE, LT_RULE];
 // The job's other rule of LT, which is wrong.
 pub const WRONG_LT_RULE: u32 = 0x5C89_4407;
 
+// ADD, SUB, NAND and LT; ADD as target, and SUB and AND, which are negated; and a right rule of each source: ADD from ADD, SUB as NOT SUB,
+// NAND as AND, and LT by NOT S XOR TOVF of SUB.
+pub const NEGATED_JOB: [u32; 13] = [
+    0x1000_0010,
+    0x2001_0103,
+    0x3000_0001,
+    0x3000_0002,
+    0x3000_0009,
+    0x3000_0019,
+    0x4000_0001,
+    0x4000_0022,
+    0x4000_0028,
+    0x5085_4960,
+    0x5109_4A60,
+    0x54A1_4100,
+    0x5C89_440D,
+];
+
+// Its rules in the order of its sources.
+pub const NEGATED_RULES: [u32; 4] = [ADD_RULE, 0x5109_4A60, 0x54A1_4100, 0x5C89_440D];
+
+// The set of its negated targets, by bits, the first target the lowest.
+pub const NEGATED: u32 = 0b110;
+
 // A bench that is put together.
 #[derive(Clone, Copy)]
 pub enum Made {
@@ -24,6 +48,8 @@ pub enum Made {
     Zeros,
     // Of the printed job, at a width, with rules bound.
     Printed(u32, &'static [u32]),
+    // Of the job with negated targets, at a width, with this set of them negated and rules bound.
+    Marked(u32, u32, &'static [u32]),
     // Of the job of LT and, as its target, RINHI, at a width, with nothing bound.
     Inhibit(u32),
 }
@@ -33,14 +59,24 @@ impl Made {
     pub fn words(self) -> BenchWords {
         match self {
             Made::Zeros => BenchWords::zeros(),
-            Made::Printed(width, rules) => printed_bench(width, rules),
+            Made::Printed(width, rules) => with_rules(printed_bench(width), rules),
+            Made::Marked(width, set, rules) => with_rules(marked_bench(width, set), rules),
             Made::Inhibit(width) => inhibit_bench(width),
         }
     }
 }
 
-fn printed_bench(width: u32, rules: &[u32]) -> BenchWords {
-    let mut bench = BenchWords {
+// With rules bound, and their count.
+fn with_rules(bench: BenchWords, rules: &[u32]) -> BenchWords {
+    let mut bench = bench;
+    for rule in rules {
+        bench = bench.with_rule(*rule);
+    }
+    bench.counted()
+}
+
+fn printed_bench(width: u32) -> BenchWords {
+    BenchWords {
         width,
         prices: Prices {
             inverter: 1,
@@ -50,11 +86,25 @@ fn printed_bench(width: u32, rules: &[u32]) -> BenchWords {
         sources: Table::of(first(after(&JOB, 2), 4)),
         targets: Table::of(first(after(&JOB, 6), 2)),
         ..BenchWords::zeros()
-    };
-    for rule in rules {
-        bench = bench.with_rule(*rule);
     }
-    bench.counted()
+}
+
+// A target, negated where a number is odd.
+fn marked_target(function: u32, number: u32) -> u32 {
+    Kind::Target.word(function | (number % 2 * MARK))
+}
+
+fn marked_bench(width: u32, set: u32) -> BenchWords {
+    let targets = [
+        marked_target(1, set),
+        marked_target(2, set / 2),
+        marked_target(8, set / 4),
+    ];
+    BenchWords {
+        sources: Table::of(first(after(&NEGATED_JOB, 2), 4)),
+        targets: Table::of(&targets),
+        ..printed_bench(width)
+    }
 }
 
 fn inhibit_bench(width: u32) -> BenchWords {

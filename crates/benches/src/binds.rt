@@ -12,7 +12,7 @@ use testing::words::put;
 const ADD_BOUND: Made = Printed(16, &[ADD_RULE]);
 
 // A bind: its name, the bench, the entry in which the word is to stand then, or none where it is to be refused, and the word.
-type Bind = (&'static [u8], Made, Option<usize>, u32);
+pub type Bind = (&'static [u8], Made, Option<usize>, u32);
 
 const WITH_ADD: [Bind; 28] = [
     (b"no kind", ADD_BOUND, None, 0x0000_0000),
@@ -120,7 +120,7 @@ fn show(rt: &HostRuntime, row: Bind) {
     say_outcome(rt, as_said, entry, answer.err());
 }
 
-fn show_rows(rt: &HostRuntime, title: &[u8], rows: &[Bind]) {
+pub fn show_rows(rt: &HostRuntime, title: &[u8], rows: &[Bind]) {
     say::text(rt, title);
     for row in rows {
         show(rt, *row);

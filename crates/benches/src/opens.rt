@@ -18,7 +18,7 @@ const SIZES: [(&[u8], usize); 8] = [
 ];
 
 // The printed job with the word at an index set to another.
-const CHANGES: [(&[u8], usize, u32); 25] = [
+const CHANGES: [(&[u8], usize, u32); 30] = [
     (b"prices first", 0, 0x2001_0103),
     (b"a target before any source", 2, 0x4000_0001),
     (b"a source after a target", 7, 0x3000_001A),
@@ -44,6 +44,11 @@ const CHANGES: [(&[u8], usize, u32); 25] = [
     (b"2 before 3", 8, 0x6FFF_FFFF),
     (b"3 before 4", 3, 0x3000_0000),
     (b"5 before 6", 8, 0x5085_4801),
+    (b"a negated target", 7, 0x4000_0022),
+    (b"a negated target twice", 7, 0x4000_0021),
+    (b"target 28, negated", 7, 0x4000_003C),
+    (b"bit 6 of a target", 7, 0x4000_0042),
+    (b"bit 5 of a source", 5, 0x3000_0039),
 ];
 
 // Opens a job; refused, it hands back the bench of zeros. The bench of the printed job is named too: it does not tell of the book.

@@ -44,7 +44,7 @@ fn show_step(rt: &HostRuntime, told: Told, expected: usize) {
 }
 
 // Takes steps on a bench one after another, each with the count after it; the bench that comes back from the last.
-fn show_steps(rt: &HostRuntime, bench: BenchWords, steps: &[(Step, usize)]) -> BenchWords {
+pub fn show_steps(rt: &HostRuntime, bench: BenchWords, steps: &[(Step, usize)]) -> BenchWords {
     let mut bench = bench;
     for (step, expected) in steps {
         let told = step.taken_on(bench);
@@ -67,7 +67,7 @@ fn show_finish(rt: &HostRuntime, bench: BenchWords) {
         b", OTHER WORDS\n",
     );
     lines::answer(rt, b"    checked", written);
-    let accepted = calls::is_accepted(bench);
+    let accepted = calls::is_accepted(bench, &JOB);
     lines::whether(rt, accepted, b", accepted\n", b", NOT ACCEPTED\n");
 }
 

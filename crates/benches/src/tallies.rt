@@ -10,7 +10,7 @@ use testing::words::{JOB, MAPPING, at, put};
 
 // Benches tried, those that the reference calls sound, and those on which the bench's calls say otherwise.
 #[derive(Clone, Copy, Default)]
-struct Tally {
+pub struct Tally {
     tried: u64,
     sound: u64,
     differ: u64,
@@ -32,7 +32,7 @@ fn price_is_fair(bench: BenchWords, sound: bool) -> bool {
     (priced ^ !sound) & (told.bench == bench) & is_fair(told, bench, sound)
 }
 
-fn with(all: Tally, bench: BenchWords) -> Tally {
+pub fn with(all: Tally, bench: BenchWords) -> Tally {
     let sound = bench.is_sound();
     let fair = price_is_fair(bench, sound)
         & is_fair(calls::bind(bench, RSUB_RULE), bench, sound)
@@ -161,7 +161,7 @@ fn with_each_word(bench: BenchWords, stored: Stored) -> Tally {
     all
 }
 
-fn report_group(rt: &HostRuntime, name: &[u8], all: Tally) {
+pub fn report_group(rt: &HostRuntime, name: &[u8], all: Tally) {
     say::text(rt, name);
     let unsound = all.tried.wrapping_sub(all.sound);
     let _ = println!(rt;
@@ -170,7 +170,7 @@ fn report_group(rt: &HostRuntime, name: &[u8], all: Tally) {
     );
 }
 
-fn report_bench(rt: &HostRuntime, name: &[u8], bench: BenchWords) {
+pub fn report_bench(rt: &HostRuntime, name: &[u8], bench: BenchWords) {
     say::text(rt, name);
     report_group(rt, b"\n    as it is", with(Tally::default(), bench));
     report_group(rt, b"    a bit turned", with_each_bit(bench, Before));

@@ -21,9 +21,14 @@ RightFor s t n = (left right : ℕ) (carry : Bool) → left < 2 ^ n → right < 
 abbrev pub Right : Claim → ℕ → Type 0
 Right c n = RightFor c.source c.recipe n
 
--- the claim of a recipe word by itself: its source function on its own inputs
+-- the claim of a recipe word whose target is negated or not: its source function on its own inputs
+abbrev pub claim_against : Bool → ℕ → Claim
+claim_against negated w =
+    record { function = source_place (source_of w); source = plain (source_of w); recipe = recipe_of negated w }
+
+-- and of one whose target is plain
 abbrev pub claim_of : ℕ → Claim
-claim_of w = record { function = source_place (source_of w); source = plain (source_of w); recipe = recipe_of w }
+claim_of w = claim_against false w
 
 -- ---- the same as a test, for definitions that choose by it. It is never computed: it tries all operands.
 

@@ -6,16 +6,17 @@ ghost use Rattle.binding.specs.Binding as B;
 ghost use Rattle.binding.specs.Right as R;
 
 use alu::Kind;
-use bits::{Operands, Ports};
+use bits::{Operands, Ports, Width};
 use output::Outputs;
 
-// A function on wired inputs.
+// A function on wired inputs, and whether it is negated.
 #[derive(Clone, Copy)]
 pub struct Side {
     pub kind: Kind,
     pub left: u32,
     pub right: u32,
     pub carry: u32,
+    pub negated: bool,
 }
 
 #[derive(Clone, Copy)]
@@ -41,6 +42,7 @@ pub fn plain(function: u32) -> Side
         left: bits::I0,
         right: bits::I1,
         carry: bits::ICIN,
+        negated: false,
     }
 }
 
@@ -54,6 +56,7 @@ fn from_vector(vector: u32) -> Recipe
             left: bits::I0,
             right: bits::I1,
             carry: bits::ICIN,
+            negated: false,
         },
         outputs: Outputs {
             main: 1,
@@ -64,8 +67,8 @@ fn from_vector(vector: u32) -> Recipe
     }
 }
 
-fn from_target(fields: recipe::Fields) -> Recipe
-    ensures { result ≡ B.from_target fields }
+fn from_target(negated: bool, fields: recipe::Fields) -> Recipe
+    ensures { result ≡ B.from_target negated fields }
 {
     Recipe {
         target: Side {
@@ -73,6 +76,7 @@ fn from_target(fields: recipe::Fields) -> Recipe
             left: fields.left,
             right: fields.right,
             carry: fields.carry,
+            negated,
         },
         outputs: Outputs {
             main: fields.main,
@@ -83,28 +87,44 @@ fn from_target(fields: recipe::Fields) -> Recipe
     }
 }
 
-// The recipe that a word holds.
+// The recipe that a word holds, whose target is negated or not.
 #[tactic(auto, unfolding(crate::specs::Binding::recipe_of))]
-fn recipe_of(word: u32) -> Recipe
-    ensures { result ≡ B.recipe_of word }
+fn recipe_of(negated: bool, word: u32) -> Recipe
+    ensures { result ≡ B.recipe_of negated word }
 {
     if recipe::from_scratch(word) {
         return from_vector(recipe::vector_of(word));
     }
-    from_target(recipe::unpack(word))
+    from_target(negated, recipe::unpack(word))
 }
 
-// The claim of a recipe word by itself: its source function on its own inputs.
-pub fn claim_of(word: u32) -> Claim
-    ensures { result ≡ R.claim_of word }
+// The claim of a recipe word whose target is negated or not: its source function on its own inputs.
+pub fn claim_against(negated: bool, word: u32) -> Claim
+    ensures { result ≡ R.claim_against negated word }
 {
     let function = recipe::source_of(word);
     let source = plain(function);
-    let recipe = recipe_of(word);
+    let recipe = recipe_of(negated, word);
     Claim {
         function,
         source,
         recipe,
+    }
+}
+
+// "Its O0 and O1 come out complemented, OCOUT and OVF do not", where a side is negated.
+fn as_marked(negated: bool, width: Width, ports: Ports) -> Ports
+    requires { ports.o0 < 2 ^ width.n }
+    ensures { (result ≡ B.as_marked negated width.n ports) × (result.o0 < 2 ^ width.n) }
+{
+    if !negated {
+        return ports;
+    }
+    Ports {
+        o0: bits::complement(width, ports.o0),
+        ocout: ports.ocout,
+        ovf: ports.ovf,
+        o1: !ports.o1,
     }
 }
 
@@ -119,7 +139,8 @@ pub fn side_shows(side: Side, operands: Operands, carry: bool) -> Ports
         right: bits::wired(operands, side.right),
     };
     let kind = side.kind;
-    alu::ports_of(kind, inputs, bits::carried(side.carry, carry))
+    let ports = alu::ports_of(kind, inputs, bits::carried(side.carry, carry));
+    as_marked(side.negated, operands.width, ports)
 }
 
 // The ports of a recipe.

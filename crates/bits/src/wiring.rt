@@ -14,7 +14,8 @@ pub fn ones(width: Width) -> u64
 }
 
 // All n bits of a word complemented.
-// Kept: this, `top` and two functions of `output` ask for a word below 2^n. A type for one word would be packed at each call, no plainer.
+// Kept: this, `top`, two functions of `output` and one of `binding` ask for a word below 2^n. A type for one word would be packed at each call,
+// no plainer.
 pub fn complement(width: Width, word: u64) -> u64
     requires { word < 2 ^ width.n }
     ensures { result ≡ W.complement width.n word }

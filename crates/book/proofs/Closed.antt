@@ -21,7 +21,7 @@ use Rattle.equivalence.proofs.States.{index_lt, state_index}
 -- ---- the test
 
 -- at both values of a bit
-abbrev both : (Bool → Bool) → Bool
+abbrev pub both : (Bool → Bool) → Bool
 both p = p false && p true
 
 -- a set of states is one number, bit i for the state i
@@ -60,11 +60,11 @@ module _ (s : Side) (t : Recipe) where
   closed set = starts set && every 64 (stays_at set)
 
 abbrev pub right_always : ℕ → Bool
-right_always w = closed (plain (source_of w)) (recipe_of w) (reached (plain (source_of w)) (recipe_of w))
+right_always w = closed (plain (source_of w)) (recipe_of false w) (reached (plain (source_of w)) (recipe_of false w))
 
 -- ---- a recipe that passes is right at every width
 
-at_both : (p : Bool → Bool) → both p ≡ true → (b : Bool) → p b ≡ true
+pub at_both : (p : Bool → Bool) → both p ≡ true → (b : Bool) → p b ≡ true
 at_both p h false = (and_split (p false) (p true) h).0
 at_both p h true = (and_split (p false) (p true) h).1
 
@@ -92,4 +92,4 @@ module _ (s : Side) (t : Recipe) (set : ℕ) (h : closed s t set ≡ true) where
   closed_right (suc k) g = λ l r c hl hr. (decided s t k l r c hl hr).1 (agrees_in k (first s t c) (started c) l r)
 
 pub always_right : (w : ℕ) → right_always w ≡ true → (n : ℕ) → 0 < n → Right (claim_of w) n
-always_right w = closed_right (plain (source_of w)) (recipe_of w) (reached (plain (source_of w)) (recipe_of w))
+always_right w = closed_right (plain (source_of w)) (recipe_of false w) (reached (plain (source_of w)) (recipe_of false w))

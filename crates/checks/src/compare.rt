@@ -27,12 +27,22 @@ fn of_checked(answer: Result<(), CheckError>, pair: &Pair) -> Result<(), Refusal
     })
 }
 
-pub fn of_priced(answer: Result<u32, PairError>) -> Result<u32, Refusal> {
+fn of_priced(answer: Result<u32, PairError>) -> Result<u32, Refusal> {
     answer.map_err(|error| match error {
         PairError::JobRefused(refusal) => told::refusal_of(Subject::Job, refusal),
         PairError::MappingRefused(refusal) => told::refusal_of(Subject::Mapping, refusal),
         PairError::Refused(refusal) => told::refusal_of(Subject::Both, refusal),
     })
+}
+
+// What the checker says.
+pub fn check_of(pair: &Pair) -> Result<(), Refusal> {
+    of_checked(checker::check(pair.job, pair.mapping), pair)
+}
+
+// What the pricer says.
+pub fn price_of(pair: &Pair) -> Result<u32, Refusal> {
+    of_priced(pricer::price(pair.job, pair.mapping))
 }
 
 fn say_difference(rt: &HostRuntime, what: &[u8], number: Option<u32>, pair: &Pair) {
@@ -56,7 +66,7 @@ fn with(
 }
 
 fn with_check(rt: &HostRuntime, all: Numbers, pair: &Pair) -> Numbers {
-    let told = of_checked(checker::check(pair.job, pair.mapping), pair);
+    let told = check_of(pair);
     let is_shown_wrong = told.is_err_and(|refusal| (refusal.number == 10) & refusal.shown);
     let same = is_shown_wrong | (told == pair.check());
     let number = told.err().map(|refusal| refusal.number);
@@ -64,7 +74,7 @@ fn with_check(rt: &HostRuntime, all: Numbers, pair: &Pair) -> Numbers {
 }
 
 fn with_price(rt: &HostRuntime, all: Numbers, pair: &Pair) -> Numbers {
-    let told = of_priced(pricer::price(pair.job, pair.mapping));
+    let told = price_of(pair);
     let same = told == pair.price();
     let number = told.err().map(|refusal| refusal.number);
     with(rt, b"price", all, number, same, pair)

@@ -1,16 +1,20 @@
 // Compares the checker and the pricer with the reference's: on document 01's printed job and mapping, on what becomes of them when
-// bits and words are changed, and on random jobs and mappings. Two lines for each group say how many answers were compared, how many
-// differ, and how many had each number; before them, where any differ, stands the first. The program is a test, so its contracts say
-// only what safety needs.
+// bits and words are changed, on jobs with negated targets, and on random jobs and mappings, with plain targets and with some negated. Two
+// lines for each group say how many answers were compared, how many differ, and how many had each number; before them, where any differ,
+// stands the first. Of the jobs with negated targets that are not random a line each says what is answered. The program is a test, so its
+// contracts say only what safety needs.
 #![tactic(auto)]
 
 mod changes;
 mod compare;
+mod negated;
 mod random;
 
 use changes::{report_one_change, report_two_changes};
-use compare::report;
-use random::random_files;
+use compare::{price_of, report};
+use negated::report_negated;
+use random::{Targets, random_files};
+use rulings::checking::Pair;
 use testing::words::{JOB, MAPPING};
 
 // At each width one change after another.
@@ -27,20 +31,29 @@ fn report_changes(rt: &HostRuntime) {
     report_two_changes(rt, 16);
 }
 
-fn report_random(rt: &HostRuntime) {
+fn report_random(rt: &HostRuntime, name: &[u8], targets: Targets) {
     for (n, count) in RANDOM {
-        report(rt, b"random files", n, random_files(rt, n, count));
+        report(rt, name, n, random_files(rt, targets, n, count));
     }
 }
 
 fn main(rt: HostRuntime) {
     // Document 01 prints a count of 148.
-    let priced = compare::of_priced(pricer::price(&JOB, &MAPPING));
+    let priced = price_of(&Pair {
+        job: &JOB,
+        mapping: &MAPPING,
+    });
     let count = match priced {
         Ok(count) => count as u64,
         Err(refusal) => refusal.place as u64,
     };
     let _ = println!(rt; "the printed mapping: price {count}");
     report_changes(&rt);
-    report_random(&rt);
+    report_negated(&rt);
+    report_random(&rt, b"random files", Targets::Plain);
+    report_random(
+        &rt,
+        b"random files, some targets negated",
+        Targets::SomeNegated,
+    );
 }

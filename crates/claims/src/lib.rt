@@ -14,7 +14,7 @@ use verdict::Verdict;
 fn claim_in(terms: &Terms, word: u32) -> Claim
     ensures { result ≡ C.claim_in terms.now.sources.now terms.now.targets.now word }
 {
-    binding::claim_of(word)
+    binding::claim_against(terms.lists_negated(recipe::target_of(word)), word)
 }
 
 // The verdict on a rule or a binding under these terms.

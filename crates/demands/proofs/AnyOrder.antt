@@ -30,6 +30,8 @@ use Rattle.bench.proofs.Binds.{place_for}
 use Rattle.std.proofs.lemmas.List.Sums.{position_or_len_is}
 use Rattle.bench.specs.declared.Bench.{Bench}
 use Rattle.bench.specs.declared.After.{After}
+use Rattle.binding.specs.Right.{is_right}
+use Rattle.claims.specs.Claim.{claim_in}
 use Rattle.demands.specs.Benches.{BenchOf, BindsAll}
 use Rattle.mapper.proofs.Answering.{sources_length}
 use Rattle.demands.proofs.Parts.{source_at_lem}
@@ -172,7 +174,9 @@ module _ (ws : List ℕ) (job : Job) (e : WellFormedJob ws job) (bound : List �
               (ap (λ (l : List ℕ). has_target l w) (same_targets ws job e) ∙ choice.target_there k h);
           free = not_bound (sources_on b.tables) (source_of w) held (ap (λ (i : ℕ). get_or held i 0) (its_entry k h) ∙ free);
         };
-        right = choice.is_right_lem k h;
+        right =
+            ap₂ (λ (x y : List ℕ). is_right (claim_in x y w) job.width) (same_sources ws job e) (same_targets ws job e)
+            ∙ choice.is_right_lem k h;
       }
 
   -- one after another, in table order

@@ -1,5 +1,5 @@
 -- The benches of a job: what the calls come to from opening it on, each of them sound; and what one with every source bound holds.
-use mathlib.Core.Path.{◌≡◌, sym, ap, subst, ◌∙◌}
+use mathlib.Core.Path.{◌≡◌, sym, ap, ap₂, subst, ◌∙◌}
 use mathlib.Core.Bool.{true}
 use mathlib.Core.List.{List}
 use Prim.Native.Nat.{ℕ, ◌-◌, ◌≤◌, ◌<◌}
@@ -20,6 +20,8 @@ use Rattle.bench.specs.Calls.{bench_with, sound_bench, holding, bindings_on, ope
 use Rattle.bench.specs.Shape.{Shaped}
 use Rattle.bench.specs.declared.Bench.{Bench}
 use Rattle.bench.specs.declared.After.{After}
+use Rattle.binding.specs.Right.{is_right}
+use Rattle.claims.specs.Claim.{claim_in}
 use Rattle.demands.specs.Benches.{Reached, opening, binding, releasing, pricing, finishing, BenchOf}
 use Rattle.mapper.proofs.Answering.{sources_length}
 use Rattle.demands.proofs.Parts.{source_at_lem}
@@ -131,5 +133,8 @@ module _ (ws : List ℕ) (job : Job) (e : WellFormedJob ws job) where
             target_there =
                 λ k h.
                 ap (λ (l : List ℕ). has_target l (get_or (bindings_on b) k 0)) (sym same_targets) ∙ (at k h).target_there;
-            is_right_lem = λ k h. (at k h).is_right_lem;
+            is_right_lem =
+                λ k h.
+                ap₂ (λ (x y : List ℕ). is_right (claim_in x y (get_or (bindings_on b) k 0)) job.width) (sym same_sources) (sym same_targets)
+                ∙ (at k h).is_right_lem;
           }

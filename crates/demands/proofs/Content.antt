@@ -11,13 +11,13 @@ use Rattle.words.specs.Kinds.{BINDING}
 use Rattle.words.specs.Paper.{source_place}
 use Rattle.words.specs.declared.Prices.{Prices}
 use Rattle.words.proofs.Fields.{field_lt}
-use Rattle.recipe.specs.Fields.{source_of}
+use Rattle.recipe.specs.Fields.{source_of, target_of}
 use Rattle.layout.specs.Layout.{recipe_fault}
 use Rattle.recipe.proofs.Content.{same_source, same_target, same_from_scratch, same_vector, same_fields}
 use Rattle.layout.proofs.Content.{same_fault}
 use Rattle.binding.specs.Binding.{plain, from_vector, from_target, recipe_of}
 use Rattle.wellformed.proofs.Parts.{kind_of-laid, content_of-laid}
-use Rattle.table.specs.Table.{lists_target, has_target}
+use Rattle.table.specs.Table.{lists_target, lists_negated, has_target}
 use Rattle.claims.specs.Claim.{claim_in}
 use Rattle.usage.specs.Sets.{usage}
 use Rattle.usage.proofs.Joining.{usage-content}
@@ -38,16 +38,19 @@ module _ (w : ℕ) where
   pub fault_same : recipe_fault (binding_word w) ≡ recipe_fault w
   fault_same = same_fault (binding_word w) w content_same
 
-  recipe_same : recipe_of (binding_word w) ≡ recipe_of w
+  -- the targets mark both alike
+  recipe_same : (targets : List ℕ) → recipe_of (lists_negated targets (target_of (binding_word w))) (binding_word w)
+      ≡ recipe_of (lists_negated targets (target_of w)) w
   unfolding recipe_of
-  recipe_same =
+  recipe_same targets =
       λ i.
       if same_from_scratch (binding_word w) w content_same i then from_vector (same_vector (binding_word w) w content_same i)
-      else from_target (same_fields (binding_word w) w content_same i)
+      else
+      from_target (lists_negated targets (same_target (binding_word w) w content_same i)) (same_fields (binding_word w) w content_same i)
 
   pub claim_same : (sources targets : List ℕ) → claim_in sources targets (binding_word w) ≡ claim_in sources targets w
   claim_same sources targets =
-      λ i. record { function = source_place (source_same i); source = plain (source_same i); recipe = recipe_same i }
+      λ i. record { function = source_place (source_same i); source = plain (source_same i); recipe = recipe_same targets i }
 
   pub has_target-same : (targets : List ℕ) → has_target targets (binding_word w) ≡ has_target targets w
   unfolding has_target

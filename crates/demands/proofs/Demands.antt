@@ -64,9 +64,10 @@ accepts_exactly_the_right c n (Wrong x) says = (
   λ h. absurd (not_right c n x says h),
 )
 
--- `judge` accepts exactly the right recipes, whatever word and width are handed in
-pub judge_accepts-exactly_the_right : (w n : ℕ) (j : Result Verdict Refusal) → Judged w n j → (judgement_paper j ≡ accepted []) ↔ RightRecipe w n
-judge_accepts-exactly_the_right w n j answer = (judged_right w n j answer, right_judged w n j answer)
+-- `judge` accepts exactly the right recipes, whatever word, width and mark are handed in
+pub judge_accepts-exactly_the_right : (w n mark : ℕ) (j : Result Verdict Refusal) → Judged w n mark j
+    → (judgement_paper j ≡ accepted []) ↔ RightRecipe w n mark
+judge_accepts-exactly_the_right w n mark j answer = (judged_right w n mark j answer, right_judged w n mark j answer)
 
 -- ---- the checker: "A mapping is accepted exactly when job and mapping are well formed, it fits, is complete and rightly priced, and
 -- every binding equals its source function on every port, for all operands and both carries, at the job's width."

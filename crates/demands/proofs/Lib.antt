@@ -24,6 +24,7 @@ pub mod Finishing
 pub mod OwnJob
 pub mod Entries
 pub mod Judging
+pub mod Negated
 pub mod Refusals
 pub mod Values
 pub mod Releases

@@ -7,8 +7,7 @@ use native.Mathlib.Omega.{arith}
 use lib.ListN.{length, take, drop, get_or, replicate, length-drop}
 use lib.Seq.{length-take-le, take_at, drop_at, get_or-take, get_or-drop}
 use borrow.Author.Tests.{eq-eqb}
-use Rattle.words.specs.Field.{content_of}
-use Rattle.words.specs.Kinds.{SOURCE, TARGET}
+use Rattle.words.specs.Field.{content_of, target_function}
 use Rattle.words.proofs.Choices.{and_join}
 use Rattle.alu.specs.Range.{is_width}
 use Rattle.sequence.specs.Limits.{most_sources, most_targets}
@@ -17,7 +16,7 @@ use Rattle.reader.specs.Job.{job_of, WellFormedJob}
 use Rattle.reader.specs.declared.Job.{Job}
 use Rattle.std.specs.Prelude.{Result, Ok, Err}
 use Rattle.words.specs.declared.Refusal.{Refusal}
-use Rattle.wellformed.proofs.Parts.{Entry}
+use Rattle.wellformed.proofs.Parts.{SourceWord, TargetWord}
 use Rattle.wellformed.proofs.JobWords.{JobFacts, well_formed}
 use Rattle.wellformed.proofs.JobAccepting.{laid, laid_well_formed, accepts}
 use Rattle.table.specs.Parts.{sources_of, targets_of}
@@ -102,19 +101,19 @@ module _ (ws : List ℕ) (job : Job) (e : WellFormedJob ws job) where
       well.width_least well.width_most well.inverter_most well.gate_most well.multiplexer_most
       (omega (arith, sources_length ws job e, well.sources_least)) (omega (arith, sources_length ws job e, well.sources_most))
       (omega (arith, target_count, well.targets_most))
-      (λ m h. subst (Entry SOURCE) (source_word m h) (well.source_words m (omega (arith, sources_length ws job e))))
+      (λ m h. subst SourceWord (source_word m h) (well.source_words m (omega (arith, sources_length ws job e))))
       (λ m h. omega (
         arith,
         well.sources_rise m (omega (arith, sources_length ws job e)),
         ap content_of (source_word m (omega arith)),
         ap content_of (source_word (m + 1) h),
       ))
-      (λ m h. subst (Entry TARGET) (target_word m h) (well.target_words m (omega (arith, target_count))))
+      (λ m h. subst TargetWord (target_word m h) (well.target_words m (omega (arith, target_count))))
       (λ m h. omega (
         arith,
         well.targets_rise m (omega (arith, target_count)),
-        ap content_of (target_word m (omega arith)),
-        ap content_of (target_word (m + 1) h),
+        ap target_function (target_word m (omega arith)),
+        ap target_function (target_word (m + 1) h),
       )))
 
   pub opened_sound : sound_bench (opened ws job) ≡ true

@@ -10,7 +10,7 @@ use Rattle.words.specs.Kinds.{is_recipe}
 use Rattle.words.specs.Paper.{number_of, refusal, accepted}
 use Rattle.words.proofs.Choices.{either}
 use Rattle.alu.specs.Function.{function_of, ports}
-use Rattle.verdict.specs.Verdicts.{Refuses, Decides, unless, judgement_paper, judge_of, Judged}
+use Rattle.verdict.specs.Verdicts.{Refuses, Decides, unless, is_mark, judgement_paper, judge_of, Judged}
 use Rattle.std.specs.Prelude.{is_ok, if◌then◌else◌, Result, Ok, Err, ⊤, Option, Some, None}
 use Rattle.bits.specs.declared.Ports.{Ports}
 use Rattle.checker.specs.declared.CheckError.{CheckError}
@@ -32,7 +32,7 @@ use Rattle.bench.specs.declared.After.{After}
 use lib.ListN.{length}
 use Rattle.alu.specs.Evaluate as alu
 use Rattle.alu.specs.Range.{is_width}
-use Rattle.binding.specs.Right.{is_right, claim_of}
+use Rattle.binding.specs.Right.{is_right, claim_against}
 use Rattle.reader.specs.Job.{job_of}
 use Rattle.reader.specs.Job as job-reader
 use Rattle.reader.specs.Mapping.{mapping_of}
@@ -68,14 +68,17 @@ evaluate_answers f n left right carry =
     listed (Some place) p = refl
     listed None p = refl
 
-pub judge_answers : (w n : ℕ) → OneNumber (Result Verdict Refusal) judge_accepts judgement_paper judge_numbers (Judged w n)
+pub judge_answers : (w n mark : ℕ) → OneNumber (Result Verdict Refusal) judge_accepts judgement_paper judge_numbers (Judged w n mark)
 unfolding judge_of
-judge_answers w n =
-    let width = if not (is_width n) then Refuses (refusal NotLaidOut 1) else Decides (claim_of w) n in
+judge_answers w n mark =
+    let claim = claim_against (eqb mark 1) w in
+    let marked = if not (is_mark mark) then Refuses (refusal NotLaidOut 2) else Decides claim n in
+    let width = if not (is_width n) then Refuses (refusal NotLaidOut 1) else marked in
     either Judges (not (is_recipe (kind_of w))) (λ _. sentence_refused OutOfSequence 0 refl)
     (λ _. recipe_number (λ x. Judges (unless x width)) w (sentence_refused NotLaidOut 0 refl) (sentence_refused ReadsUndriven 0 refl)
     (sentence_refused OtherOutputs 0 refl)
-    (either Judges (not (is_width n)) (λ _. sentence_refused NotLaidOut 1 refl) (λ _. sentence_decided (claim_of w) n)))
+    (either Judges (not (is_width n)) (λ _. sentence_refused NotLaidOut 1 refl)
+    (λ _. either Judges (not (is_mark mark)) (λ _. sentence_refused NotLaidOut 2 refl) (λ _. sentence_decided claim n))))
 
 pub read_job_answers : (ws : List ℕ) → OneNumber (Result Job Refusal) is_ok job-reader.paper_of read_numbers (λ r. r ≡ job_of ws)
 read_job_answers ws = one_answer is_ok job-reader.paper_of read_numbers (job_of ws) (go (job_of ws) refl)

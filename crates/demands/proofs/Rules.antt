@@ -12,8 +12,10 @@ use Rattle.std.specs.Prelude.{if◌then◌else◌}
 use Rattle.words.specs.Kinds.{RULE}
 use Rattle.words.proofs.Choices.{and_join}
 use Rattle.binding.specs.Binding.{plain, recipe_of}
+use Rattle.binding.specs.Right.{is_right_for}
+use Rattle.binding.specs.declared.Recipe.{Recipe}
 use Rattle.binding.proofs.Tests.{right_test}
-use Rattle.recipe.specs.Fields.{source_of}
+use Rattle.recipe.specs.Fields.{source_of, target_of, from_scratch}
 use Rattle.book.specs.Book.{book}
 use Rattle.book.proofs.Laws.{each_is_a_rule, each_is_right}
 use Rattle.reader.specs.Job.{WellFormedJob}
@@ -23,6 +25,7 @@ use Rattle.wellformed.proofs.Parts.{RecipeWord}
 use Rattle.alu.proofs.Shown.{is_width_lem}
 use Rattle.wellformed.proofs.JobWords.{JobFacts, well_formed}
 use Rattle.table.specs.Parts.{targets_of, rules_of, terms_of}
+use Rattle.table.specs.Table.{lists_negated}
 use Rattle.best.specs.Best.{usable, serves}
 use Rattle.mapper.specs.Mapping.{book_of, rules_for}
 use Rattle.demands.specs.Mapped.{source_at}
@@ -59,11 +62,19 @@ module _ (ws : List ℕ) (job : Job) (e : WellFormedJob ws job) where
             rw (ap (λ (x : ℕ). get_or (rules_for ws job) x 0) at ∙ behind k) (book-rule job.book k (omega (arith, both)))
       ]
 
-  -- ---- a rule of the book is usable wherever its target is to be had
+  -- ---- a rule of the book is usable wherever its target is to be had, and not negated
 
   module _ (asked : job.book ≡ true) (k : ℕ) (b : BookHas (targets_of ws job) (source_at ws k)) where
     in_book : book_of job ≡ book
     in_book = rw asked refl
+
+    -- from scratch no mark counts, and of a target that is not negated there is none
+    as_plain : (scratch : Bool) → from_scratch (get_or book b.index 0) ≡ scratch
+        → recipe_of (lists_negated (targets_of ws job) (target_of (get_or book b.index 0))) (get_or book b.index 0)
+        ≡ recipe_of false (get_or book b.index 0)
+    unfolding recipe_of
+    as_plain true e = rw e refl
+    as_plain false e = ap (λ (negated : Bool). recipe_of negated (get_or book b.index 0)) (b.target_plain e)
 
     rule_serves : serves (terms_of ws job) (source_at ws k) (get_or book b.index 0) ≡ true
     unfolding serves usable
@@ -71,7 +82,9 @@ module _ (ws : List ℕ) (job : Job) (e : WellFormedJob ws job) where
         let w = get_or book b.index 0 in
         let right = each_is_right b.index b.within job.width (is_width_lem job.width facts.width_least facts.width_most) in
         and_join (eq-eqb (source_of w) (source_at ws k) b.its_source)
-        (and_join b.target_there ((right_test (plain (source_of w)) (recipe_of w) job.width).1 right))
+        (and_join b.target_there
+        (ap (λ (t : Recipe). is_right_for (plain (source_of w)) t job.width) (as_plain (from_scratch w) refl)
+        ∙ (right_test (plain (source_of w)) (recipe_of false w) job.width).1 right))
 
     pub book-serves : ServedAt ws job k
     book-serves =

@@ -1,14 +1,14 @@
 -- The words in which the mapper's promises are said: document 01, "Mapper and bench". "A rule is usable if its target is 0 or in the
 -- job and its recipe is right. Sources are taken in order; each gets the usable rule that makes the glue of the bindings so far least,
 -- the earlier rule on equal glue."
-use Rattle.std.specs.Prelude.{ℕ, ◌<◌, ◌≤◌, ◌≡◌, true, List, [], ◌∷◌, ◌++◌, length, take, drop, get_or, Ok}
+use Rattle.std.specs.Prelude.{ℕ, ◌<◌, ◌≤◌, ◌≡◌, true, false, List, [], ◌∷◌, ◌++◌, length, take, drop, get_or, Ok}
 use Rattle.words.specs.Paper.{source_place, accepted}
-use Rattle.recipe.specs.Fields.{source_of}
+use Rattle.recipe.specs.Fields.{source_of, target_of, from_scratch}
 use Rattle.book.specs.Book.{book}
 use Rattle.reader.specs.Job.{WellFormedJob}
 use Rattle.reader.specs.declared.Job.{Job}
 use Rattle.table.specs.Parts.{Terms, terms_of}
-use Rattle.table.specs.Table.{has_target}
+use Rattle.table.specs.Table.{has_target, lists_negated}
 use Rattle.writer.specs.Write.{words_needed}
 use Rattle.best.specs.Best.{serves}
 use Rattle.choice.specs.Choose.{with_rule}
@@ -30,12 +30,13 @@ pub record Least (glue_with : ℕ → ℕ) (t : Terms) (f : ℕ) (rules : List �
   pub none_less : (i : ℕ) → i < length rules → serves t f (get_or rules i 0) ≡ true → glue_with w ≤ glue_with (get_or rules i 0)
   pub none_earlier : (i : ℕ) → i < index → serves t f (get_or rules i 0) ≡ true → glue_with w < glue_with (get_or rules i 0)
 
--- the book has a rule for the function, from scratch or from one of these targets
+-- the book has a rule for the function, from scratch or from one of these targets that is not negated
 pub record BookHas (targets : List ℕ) (f : ℕ) : Type 0 where
   pub index : ℕ
   pub within : index < length book
   pub its_source : source_of (get_or book index 0) ≡ f
   pub target_there : has_target targets (get_or book index 0) ≡ true
+  pub target_plain : from_scratch (get_or book index 0) ≡ false → lists_negated targets (target_of (get_or book index 0)) ≡ false
 
 -- ---- of a job's k-th source
 

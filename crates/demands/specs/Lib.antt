@@ -3,3 +3,4 @@ pub mod Answers
 pub mod Mapped
 pub mod Choice
 pub mod Benches
+pub mod Negated

@@ -1,7 +1,7 @@
 -- The words in which the checker's promises are said: document 01, "What a binding shows". "A job or mapping is well formed if none
 -- of 1 to 6 below holds of its words. A mapping fits its job if neither 7 nor 8 holds, is complete if 9 does not, and rightly priced
 -- if 11 does not."
-use Rattle.std.specs.Prelude.{ℕ, ◌+◌, ◌<◌, ◌≤◌, ◌≡◌, true, List, [], ◌∷◌, get_or, None, Result, Ok, ⊤}
+use Rattle.std.specs.Prelude.{ℕ, ◌+◌, ◌<◌, ◌≤◌, ◌≡◌, true, List, [], ◌∷◌, get_or, eqb, None, Result, Ok, ⊤}
 use Rattle.words.specs.Field.{kind_of, source_function}
 use Rattle.words.specs.Kinds.{is_recipe}
 use Rattle.words.specs.Paper.{port_number, source_place, refused, refused_with}
@@ -10,9 +10,9 @@ use Rattle.bits.specs.Bits.{num}
 use Rattle.alu.specs.Range.{is_width}
 use Rattle.recipe.specs.Fields.{source_of}
 use Rattle.layout.specs.Layout.{recipe_fault}
-use Rattle.binding.specs.Right.{Right, claim_of}
+use Rattle.binding.specs.Right.{Right, claim_against}
 use Rattle.binding.specs.declared.Claim.{Claim}
-use Rattle.verdict.specs.Verdicts.{Differs}
+use Rattle.verdict.specs.Verdicts.{Differs, is_mark}
 use Rattle.reader.specs.Job.{WellFormedJob}
 use Rattle.reader.specs.Starts.{sources_start, binding_place}
 use Rattle.reader.specs.Mapping.{WellFormedMapping}
@@ -25,12 +25,14 @@ use Rattle.checker.specs.declared.CheckError.{CheckError}
 use Rattle.pricer.specs.Pricing.{glue_of}
 use Rattle.checker.specs.Check.{paper_of}
 
--- a word and a width that the judge is to accept: a rule or a binding that passes 3, 5 and 6, a width, and the recipe right at it
-pub record RightRecipe (w n : ℕ) : Type 0 where
+-- a word, a width and a mark that the judge is to accept: a rule or a binding that passes 3, 5 and 6, a width, a mark, and the recipe right
+-- at that width against its target as marked
+pub record RightRecipe (w n mark : ℕ) : Type 0 where
   pub a_recipe : is_recipe (kind_of w) ≡ true
   pub faultless : recipe_fault w ≡ None
   pub a_width : is_width n ≡ true
-  pub right : Right (claim_of w) n
+  pub a_mark : is_mark mark ≡ true
+  pub right : Right (claim_against (eqb mark 1) w) n
 
 -- the function of the job's i-th source word, and the mapping's k-th binding
 abbrev pub source_at : List ℕ → ℕ → ℕ

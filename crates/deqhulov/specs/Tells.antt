@@ -14,8 +14,8 @@ pub record TellsCheck (job mapping : List ℕ) (number place : ℕ) (out after :
   pub checks : Checks job mapping answer
   pub told : Told (checker.paper_of answer) number place out after
 
--- the judgement on a recipe word at a width is told
-pub record TellsJudgement (word width number place : ℕ) (out after : List ℕ) : Type 0 where
+-- the judgement on a recipe word at a width, by whether its target is marked, is told
+pub record TellsJudgement (word width mark number place : ℕ) (out after : List ℕ) : Type 0 where
   pub answer : Result Verdict Refusal
-  pub judged : Judged word width answer
+  pub judged : Judged word width mark answer
   pub told : Told (judgement_paper answer) number place out after

@@ -62,12 +62,13 @@ pub fn deqhulov_check(job: &[u32], mapping: &[u32], place: &mut u64, out: &mut [
     report::tell(told, place, out)
 }
 
-// Judges a recipe word at a width. The values of 10 are the port, the operands and the carry.
+// Judges a recipe word at a width; its target is plain for the mark 0, negated for 1. The values of 10 are the port, the operands and the
+// carry.
 #[tactic(auto, using(report::proofs::Telling::told_of, report::proofs::Telling::report_fits))]
-pub fn deqhulov_judge(word: u32, width: u32, place: &mut u64, out: &mut [u64]) -> u32
-    ensures { D.TellsJudgement word width result place.new out.old out.new }
+pub fn deqhulov_judge(word: u32, width: u32, mark: u32, place: &mut u64, out: &mut [u64]) -> u32
+    ensures { D.TellsJudgement word width mark result place.new out.old out.new }
 {
-    let judgement = verdict::judge(word, width);
+    let judgement = verdict::judge(word, width, mark);
     let told = answers::of_judgement(judgement);
     report::tell(told, place, out)
 }

@@ -66,10 +66,17 @@ pub extern "C" fn deqhulov_check(
     deqhulov::deqhulov_check(job, mapping, place, out)
 }
 
-// Judges a recipe word at a width. The values of 10 are the port, the operands and the carry.
+// Judges a recipe word at a width; its target is plain for the mark 0, negated for 1. The values of 10 are the port, the operands and the
+// carry.
 #[unsafe(no_mangle)]
-pub extern "C" fn deqhulov_judge(word: u32, width: u32, place: &mut u64, out: &mut [u64]) -> u32
-    ensures { D.TellsJudgement word width result place.new out.old out.new }
+pub extern "C" fn deqhulov_judge(
+    word: u32,
+    width: u32,
+    mark: u32,
+    place: &mut u64,
+    out: &mut [u64],
+) -> u32
+    ensures { D.TellsJudgement word width mark result place.new out.old out.new }
 {
-    deqhulov::deqhulov_judge(word, width, place, out)
+    deqhulov::deqhulov_judge(word, width, mark, place, out)
 }

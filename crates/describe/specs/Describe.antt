@@ -3,7 +3,7 @@ use Rattle.std.specs.Prelude.{ℕ, Option, None, Some, is_some, Bool, ◌&&◌, 
 use Rattle.words.specs.Paper.{number_of}
 use Rattle.words.specs.declared.Fault.{Fault}
 use Rattle.words.specs.declared.Fault.TheVariants.{OutOfSequence, NotLaidOut}
-use Rattle.words.specs.Field.{field, kind_of, content_of, source_function, target_function}
+use Rattle.words.specs.Field.{field, kind_of, content_of, source_function, target_function, target_negated}
 use Rattle.words.specs.Kinds.{HEADER, PRICES, SOURCE, TARGET, RULE, GLUE, is_recipe}
 use Rattle.recipe.specs.Fields.{source_of, target_of, from_scratch, vector_of, fields_of}
 use Rattle.recipe.specs.declared.Fields.{Fields}
@@ -62,12 +62,16 @@ prices_text w =
     ++ labelled (bytes ", gate ") (field w 8 8)
     ++ labelled (bytes ", multiplexer ") (field w 0 8)
 
+-- request #105: "Bit 5 of a target word marks it"
+unfoldable pub target_text : ℕ → List ℕ
+target_text w = bytes "target " ++ name_of (target_function w) ++ (if target_negated w then bytes ", negated" else [])
+
 unfoldable pub word_text : ℕ → List ℕ
 word_text w =
     if eqb (kind_of w) HEADER then header_text w
     else if eqb (kind_of w) PRICES then prices_text w
     else if eqb (kind_of w) SOURCE then bytes "source " ++ name_of (source_function w)
-    else if eqb (kind_of w) TARGET then bytes "target " ++ name_of (target_function w)
+    else if eqb (kind_of w) TARGET then target_text w
     else if eqb (kind_of w) GLUE then labelled (bytes "glue count ") (content_of w)
     else if eqb (kind_of w) RULE then bytes "rule " ++ recipe_text w
     else bytes "binding " ++ recipe_text w

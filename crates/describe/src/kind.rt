@@ -41,6 +41,18 @@ fn put_function<const ROOM: usize>(label: &[u8], function: u32, text: &mut Text<
     text.put_name(function);
 }
 
+#[tactic(auto, unfolding(crate::specs::Describe::target_text))]
+fn put_target<const ROOM: usize>(word: u32, text: &mut Text<ROOM>)
+    requires { length text.old + M.most_kind ≤ ROOM }
+    ensures short { length text.new ≤ length text.old + M.most_kind }
+    ensures text { text.new ≡ text.old ++ D.target_text word }
+{
+    put_function(b"target ", words::target_function(word), text);
+    if words::target_negated(word) {
+        text.put(b", negated");
+    }
+}
+
 // What a word is, by its kind.
 #[tactic(auto, unfolding(crate::specs::Describe::word_text))]
 pub fn put_kind<const ROOM: usize>(word: Word, text: &mut Text<ROOM>)
@@ -53,7 +65,7 @@ pub fn put_kind<const ROOM: usize>(word: Word, text: &mut Text<ROOM>)
         WordKind::Header => put_header(bits, text),
         WordKind::Prices => put_prices(bits, text),
         WordKind::Source => put_function(b"source ", words::source_function(bits), text),
-        WordKind::Target => put_function(b"target ", words::target_function(bits), text),
+        WordKind::Target => put_target(bits, text),
         WordKind::Rule => put_recipe(b"rule ", bits, text),
         WordKind::Binding => put_recipe(b"binding ", bits, text),
         WordKind::Glue => text.put_labelled(b"glue count ", words::content_of(bits) as u64),

@@ -103,6 +103,8 @@ fn main(rt: HostRuntime) {
     check(&rt, b"board.job", b"board.mapping");
     map(&rt, b"book.job");
     check(&rt, b"book.job", b"book.mapping");
+    map(&rt, b"negated.job");
+    check(&rt, b"negated.job", b"negated.mapping");
     let _ = console::print(&rt, b"map inputs\n");
     cases::map_inputs(&rt);
     let _ = console::print(&rt, b"check inputs\n");

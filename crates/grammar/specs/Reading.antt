@@ -31,9 +31,9 @@ prices_fit w = ltb (content_of w) (2 ^ 24)
 abbrev pub source_fits : ℕ → Bool
 source_fits w = is_function (content_of w)
 
--- "target function: bits 4..0 number"
+-- "target function: bits 4..0 number"; request #105: "Bit 5 of a target word marks it"
 abbrev pub target_fits : ℕ → Bool
-target_fits w = is_function (content_of w)
+target_fits w = ltb (content_of w) (2 ^ 6) && is_function (target_function w)
 
 -- "bits 27..0 glue count"
 abbrev pub glue_fits : ℕ → Bool

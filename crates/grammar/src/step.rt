@@ -17,6 +17,13 @@ fn header_fits(file: File, word: u32) -> bool
     }
 }
 
+// What a target word must be: a function, and bit 5 besides, which marks it.
+fn target_fits(word: u32) -> bool
+    ensures { result ≡ R.target_fits word }
+{
+    (content_of(word) < 0x40) & alu::is_function(words::target_function(word))
+}
+
 // What stands below a word's kind is as the layout says.
 #[tactic(auto, unfolding(crate::specs::Reading::fits))]
 fn kind_fits(file: File, word: Word) -> bool
@@ -27,7 +34,7 @@ fn kind_fits(file: File, word: Word) -> bool
         WordKind::Header => header_fits(file, word.bits),
         WordKind::Prices => content < 0x0100_0000,
         WordKind::Source => alu::is_function(content),
-        WordKind::Target => alu::is_function(content),
+        WordKind::Target => target_fits(word.bits),
         WordKind::Glue => true,
         WordKind::Rule => layout::laid_out(word.bits),
         WordKind::Binding => layout::laid_out(word.bits),

@@ -22,13 +22,13 @@ everywhere_text (Ok (Some x)) = labelled (bytes " WRONG WIDTH ") x.width ++ witn
 everywhere_text (Err r) = bytes " " ++ refusal_text r ++ bytes "\n"
 
 -- the line of a word judged at a width stands behind what stood before
-pub record SaysAt (w n : ℕ) (old new : List ℕ) : Type 0 where
+pub record SaysAt (w n mark : ℕ) (old new : List ℕ) : Type 0 where
   pub answer : Result Verdict Refusal
-  pub judged : Judged w n answer
+  pub judged : Judged w n mark answer
   pub text : new ≡ old ++ hexadecimal w ++ judgement_text answer
 
 -- and of one judged at every width
-pub record SaysEverywhere (w : ℕ) (old new : List ℕ) : Type 0 where
+pub record SaysEverywhere (w mark : ℕ) (old new : List ℕ) : Type 0 where
   pub answer : Result (Option WrongAt) Refusal
-  pub judged : JudgedEverywhere w answer
+  pub judged : JudgedEverywhere w mark answer
   pub text : new ≡ old ++ hexadecimal w ++ everywhere_text answer

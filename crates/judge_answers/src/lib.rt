@@ -19,13 +19,14 @@ pub struct WrongAt {
     witness: Witness,
 }
 
-// Judges a recipe word at every width, the least first: none where it is right at all, or the least at which it is wrong.
+// Judges a recipe word, its target marked or not, at every width, the least first: none where it is right at all, or the least at which
+// it is wrong.
 #[tactic(auto, using(crate::proofs::Widths::refused_everywhere, crate::proofs::Widths::right_at_all, crate::proofs::Widths::right_at_none, crate::proofs::Widths::right_more, crate::proofs::Widths::wrong_first))]
-fn judge_everywhere(word: u32) -> Result<Option<WrongAt>, Refusal>
-    ensures { E.JudgedEverywhere word result }
+fn judge_everywhere(word: u32, mark: u32) -> Result<Option<WrongAt>, Refusal>
+    ensures { E.JudgedEverywhere word mark result }
 {
     for width in 1..=64 {
-        let verdict = verdict::judge(word, width)?;
+        let verdict = verdict::judge(word, width, mark)?;
         if let Verdict::Wrong(witness) = verdict {
             return Ok(Some(WrongAt { width, witness }));
         }
@@ -98,24 +99,24 @@ fn put_everywhere_text<const ROOM: usize>(
 
 // The line of a word judged at a width.
 #[tactic(auto, unfolding(text::specs::Text::hexadecimal))]
-pub fn put_at<const ROOM: usize>(word: u32, width: u32, line: &mut Text<ROOM>)
+pub fn put_at<const ROOM: usize>(word: u32, width: u32, mark: u32, line: &mut Text<ROOM>)
     requires { length line.old + L.most_line_bytes ≤ ROOM }
     ensures short { length line.new ≤ length line.old + L.most_line_bytes }
-    ensures said { S.SaysAt word width line.old line.new }
+    ensures said { S.SaysAt word width mark line.old line.new }
 {
-    let judgement = verdict::judge(word, width);
+    let judgement = verdict::judge(word, width, mark);
     line.put_digits(word as u64, 16, 8);
     put_judgement(judgement, line);
 }
 
 // The line of a word judged at every width.
 #[tactic(auto, unfolding(text::specs::Text::hexadecimal))]
-pub fn put_everywhere<const ROOM: usize>(word: u32, line: &mut Text<ROOM>)
+pub fn put_everywhere<const ROOM: usize>(word: u32, mark: u32, line: &mut Text<ROOM>)
     requires { length line.old + L.most_line_bytes ≤ ROOM }
     ensures short { length line.new ≤ length line.old + L.most_line_bytes }
-    ensures said { S.SaysEverywhere word line.old line.new }
+    ensures said { S.SaysEverywhere word mark line.old line.new }
 {
-    let everywhere = judge_everywhere(word);
+    let everywhere = judge_everywhere(word, mark);
     line.put_digits(word as u64, 16, 8);
     put_everywhere_text(everywhere, line);
 }

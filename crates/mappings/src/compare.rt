@@ -1,5 +1,6 @@
 // The mapper beside the second account of it, on random jobs.
 use crate::jobs::BOOK_BIT;
+use crate::marks::mark;
 use crate::random::{Shape, job_of};
 use book::BOOK;
 use reference::answer::Subject;
@@ -9,12 +10,14 @@ use testing::say;
 use testing::tally::{Tally, more};
 use testing::words::{LENT, at, lent_holds};
 
-// A series of random jobs: eight widths, how many jobs of each shape, and the bits of the header that are set besides the width.
+// A series of random jobs: eight widths, how many jobs of each shape, the bits of the header that are set besides the width, and whether
+// some of the targets are negated.
 struct Series {
     name: &'static [u8],
     widths: [u32; 8],
     jobs: [(Shape, u32); 6],
     asked: u32,
+    negated: bool,
 }
 
 // Widths at which the second account tries all operands, and at which it knows which rules are right.
@@ -41,30 +44,72 @@ const BOOK_JOBS: [(Shape, u32); 6] = [
     (Shape::BitTurned, 200),
 ];
 
-const SERIES: [Series; 4] = [
+// Of the jobs with negated targets, whose rules the second account tries at every width.
+const NEGATED_JOBS: [(Shape, u32); 6] = [
+    (Shape::SomeRules, 400),
+    (Shape::Prices0, 200),
+    (Shape::NoRules, 40),
+    (Shape::AllSources, 100),
+    (Shape::ManyRules, 24),
+    (Shape::BitTurned, 200),
+];
+
+const SERIES: [Series; 8] = [
     Series {
         name: b"widths 1 to 4, ",
         widths: TRIED,
         jobs: JOBS,
         asked: 0,
+        negated: false,
     },
     Series {
         name: b"widths 5 to 64, ",
         widths: KNOWN,
         jobs: JOBS,
         asked: 0,
+        negated: false,
     },
     Series {
         name: b"the book, widths 1 to 4, ",
         widths: TRIED,
         jobs: BOOK_JOBS,
         asked: BOOK_BIT,
+        negated: false,
     },
     Series {
         name: b"the book, widths 5 to 64, ",
         widths: KNOWN,
         jobs: BOOK_JOBS,
         asked: BOOK_BIT,
+        negated: false,
+    },
+    Series {
+        name: b"negated targets, widths 1 to 4, ",
+        widths: TRIED,
+        jobs: NEGATED_JOBS,
+        asked: 0,
+        negated: true,
+    },
+    Series {
+        name: b"negated targets, widths 5 to 64, ",
+        widths: KNOWN,
+        jobs: NEGATED_JOBS,
+        asked: 0,
+        negated: true,
+    },
+    Series {
+        name: b"negated targets, the book, widths 1 to 4, ",
+        widths: TRIED,
+        jobs: NEGATED_JOBS,
+        asked: BOOK_BIT,
+        negated: true,
+    },
+    Series {
+        name: b"negated targets, the book, widths 5 to 64, ",
+        widths: KNOWN,
+        jobs: NEGATED_JOBS,
+        asked: BOOK_BIT,
+        negated: true,
     },
 ];
 
@@ -129,7 +174,10 @@ fn random_jobs(rt: &HostRuntime, series: &Series, shape: Shape, count: u32) -> C
     let mut random = next(0x9e37_79b9_7f4a_7c15 ^ (shape as u64) ^ ((at(&widths, 0) as u64) << 8));
     for i in 0..count {
         let n = widths[(i % 8) as usize];
-        let words = job_of(shape, n, series.asked, random);
+        let mut words = job_of(shape, n, series.asked, random);
+        if series.negated {
+            mark(&mut words, random);
+        }
         let job = words.written();
         all.count(rt, job, outcome_of(job, (random % 64) as usize));
         random = next(random);

@@ -1,6 +1,6 @@
 // Random damage to a file.
 use crate::files::FileWords;
-use crate::random::{draw, random_file, random_word};
+use crate::random::{draw, mark_targets, random_file, random_word};
 use accounts::reading::File;
 use readers::compare;
 use testing::tally::Numbers;
@@ -74,6 +74,19 @@ pub fn damaged_files(file: File, files: u32) -> Numbers {
         let mut words = random_file(file, &mut state);
         damage_some(&mut words, &mut state);
         all = compare(all, file, words.written(), None);
+    }
+    all
+}
+
+// Random jobs of which some targets are negated, each damaged up to three times. The seed is another.
+pub fn damaged_marked(jobs: u32) -> Numbers {
+    let mut state = 0x9e37_79b9_7f4a_7c15;
+    let mut all = Numbers::default();
+    for _ in 0..jobs {
+        let mut words = random_file(File::Job, &mut state);
+        mark_targets(&mut words, &mut state);
+        damage_some(&mut words, &mut state);
+        all = compare(all, File::Job, words.written(), None);
     }
     all
 }

@@ -2,8 +2,8 @@
 use crate::files::FileWords;
 use accounts::reading::File;
 use reference::trial::next;
-use testing::kinds::Kind;
-use testing::words::Words;
+use testing::kinds::{Kind, kind_of};
+use testing::words::{MARK, Words, at};
 
 // A random number below another; below 0 it is 0.
 pub fn draw(state: &mut u64, below: u32) -> u32 {
@@ -136,5 +136,17 @@ pub fn random_file(file: File, state: &mut u64) -> FileWords {
     match file {
         File::Job => random_job(width, state),
         File::Mapping => random_mapping(width, state),
+    }
+}
+
+// Marks a job's targets as negated: in half of the jobs none, in the others each one time in two.
+pub fn mark_targets(words: &mut FileWords, state: &mut u64) {
+    let some = draw(state, 2) == 1;
+    for i in 0..words.written().len() {
+        let word = at(words.written(), i);
+        let marked = some & (draw(state, 2) == 1);
+        if marked & (kind_of(word) == Some(Kind::Target)) {
+            words.put(i, word ^ MARK);
+        }
     }
 }

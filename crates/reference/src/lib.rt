@@ -9,6 +9,7 @@ mod arithmetic;
 mod comparison;
 pub mod evaluator;
 mod logic;
+pub mod negated;
 pub mod places;
 pub mod recipe;
 pub mod refusal;

@@ -45,6 +45,13 @@ pub fn fields_of(word: u32) -> Fields {
     }
 }
 
+// A recipe's word, and whether its target is negated.
+#[derive(Clone, Copy)]
+pub struct Recipe {
+    pub word: u32,
+    pub negated: bool,
+}
+
 // The vector's bit for a place's bits: bit 3 for 00, bit 2 for 01, bit 1 for 10, bit 0 for 11.
 fn minterm(vector: u32, x: bool, y: bool) -> bool {
     let from = if x { vector } else { vector / 4 };
@@ -131,6 +138,15 @@ fn outputs(fields: Fields, n: u32, target: Shown) -> Shown {
     }
 }
 
+// What a negated target shows: each bit of O0 by the gate of NOT SI0, and O1, the other way round.
+fn complemented(n: u32, target: Shown) -> Shown {
+    Shown {
+        o0: by_vector(wire(3), n, target.o0, 0),
+        o1: !target.o1,
+        ..target
+    }
+}
+
 fn carry_in(code: u32, carry: u32) -> u32 {
     match code {
         0 => 0,
@@ -143,8 +159,8 @@ fn carry_in(code: u32, carry: u32) -> u32 {
 
 // The four ports; zeros where a value is out of range.
 // Kept: zeros, as the evaluator has them.
-pub fn recipe_shows(word: u32, width: u32, at: Operands) -> Shown {
-    let fields = fields_of(word);
+pub fn recipe_shows(recipe: Recipe, width: u32, at: Operands) -> Shown {
+    let fields = fields_of(recipe.word);
     if in_range(1, width, at).is_err() {
         return evaluate(0, width, at);
     }
@@ -161,7 +177,12 @@ pub fn recipe_shows(word: u32, width: u32, at: Operands) -> Shown {
         right: by_vector(wire(fields.right), width, at.left, at.right),
         carry: carry_in(fields.carry, at.carry),
     };
-    let target = evaluate(fields.target, width, wired);
+    let plain = evaluate(fields.target, width, wired);
+    let target = if recipe.negated {
+        complemented(width, plain)
+    } else {
+        plain
+    };
     outputs(fields, width, target)
 }
 
@@ -188,10 +209,13 @@ impl fmt::Display for Port {
 
 // The lowest port at which a recipe does not show what its source function does, if there is one. Of a function or operands out of range
 // nothing is shown, so that they would bear out anything: the place of what is out of range.
-pub fn first_difference(word: u32, width: u32, at: Operands) -> Result<Option<Port>, usize> {
-    let function = fields_of(word).source;
+pub fn first_difference(recipe: Recipe, width: u32, at: Operands) -> Result<Option<Port>, usize> {
+    let function = fields_of(recipe.word).source;
     in_range(function, width, at)?;
-    Ok(first_differing(recipe_shows(word, width, at), evaluate(function, width, at)))
+    Ok(first_differing(
+        recipe_shows(recipe, width, at),
+        evaluate(function, width, at),
+    ))
 }
 
 fn first_differing(recipe: Shown, source: Shown) -> Option<Port> {

@@ -71,13 +71,16 @@ pub fn recipe_fits(word: u32) -> Result<(), u32> {
     Ok(())
 }
 
-// What a judge of a recipe word and a width refuses: the word, place 0, then the width, place 1.
-pub fn refusal_of(word: u32, width: u32) -> Option<Refusal> {
+// What a judge of a recipe word, a width and a mark refuses: the word, place 0, then the width, place 1, then the mark, place 2.
+pub fn refusal_of(word: u32, width: u32, mark: u32) -> Option<Refusal> {
     if let Err(number) = recipe_fits(word) {
         return Some(refused(Subject::Word, number, 0));
     }
     if (width == 0) | (width > 64) {
         return Some(refused(Subject::Word, 3, 1));
+    }
+    if mark > 1 {
+        return Some(refused(Subject::Word, 3, 2));
     }
     None
 }

@@ -3,7 +3,7 @@
 ghost use Rattle.std.specs.Prelude.{◌≤◌};
 
 use crate::evaluator::Operands;
-use crate::recipe::{Port, fields_of, first_difference};
+use crate::recipe::{Port, Recipe, fields_of, first_difference};
 
 // The next of Marsaglia's 64-bit xorshift numbers.
 pub fn next(x: u64) -> u64 {
@@ -71,7 +71,7 @@ pub fn sampled(n: u32, i: u32, seed: u64) -> Operands {
 }
 
 // All operands of n bits in turn: the bits of a number are the left one's, the right one's and the carry.
-fn agrees_at_all(word: u32, n: u32) -> bool
+fn agrees_at_all(recipe: Recipe, n: u32) -> bool
     requires { n ≤ 7 }
 {
     let end = 2u64 << (2 * n);
@@ -81,17 +81,17 @@ fn agrees_at_all(word: u32, n: u32) -> bool
             right: (i >> n) & ones(n),
             carry: ((i >> (2 * n)) % 2) as u32,
         };
-        if first_difference(word, n, operands) != Ok(None) {
+        if first_difference(recipe, n, operands) != Ok(None) {
             return false;
         }
     }
     true
 }
 
-fn agrees_at_many(word: u32, n: u32) -> bool {
-    let mut x = next((word as u64) ^ ((n as u64) << 40));
+fn agrees_at_many(recipe: Recipe, n: u32) -> bool {
+    let mut x = next((recipe.word as u64) ^ ((n as u64) << 40));
     for i in 0..200 {
-        if first_difference(word, n, sampled(n, i, x)) != Ok(None) {
+        if first_difference(recipe, n, sampled(n, i, x)) != Ok(None) {
             return false;
         }
         x = next(next(next(x)));
@@ -100,13 +100,13 @@ fn agrees_at_many(word: u32, n: u32) -> bool {
 }
 
 // Whether a recipe is right, as far as it is tried: whole at widths to 7.
-// Kept: a word and a width, not a struct of both. They come from two places, a word of a file or a bench and its width, so that each
+// Kept: a recipe and a width, not a struct of both. They come from two places, a word of a file or a bench and its width, so that each
 // caller would put the struct together for one call.
-pub fn is_right(word: u32, n: u32) -> bool {
+pub fn is_right(recipe: Recipe, n: u32) -> bool {
     if n <= 7 {
-        return agrees_at_all(word, n);
+        return agrees_at_all(recipe, n);
     }
-    agrees_at_many(word, n)
+    agrees_at_many(recipe, n)
 }
 
 // What is said of a wrong recipe: its source function, the lowest port that differs, and operands at which it does.
@@ -120,16 +120,16 @@ pub struct Witness {
     pub carry: bool,
 }
 
-// Whether a witness shows that a recipe is wrong: of the word's source function, at operands in range, with the lowest port that differs
+// Whether a witness shows that a recipe is wrong: of its word's source function, at operands in range, with the lowest port that differs
 // there.
-pub fn bears_out(word: u32, n: u32, w: Witness) -> bool {
+pub fn bears_out(recipe: Recipe, n: u32, w: Witness) -> bool {
     let operands = Operands {
         left: w.left,
         right: w.right,
         carry: w.carry as u32,
     };
-    let Ok(Some(port)) = first_difference(word, n, operands) else {
+    let Ok(Some(port)) = first_difference(recipe, n, operands) else {
         return false;
     };
-    (w.function == fields_of(word).source) & (w.port == port)
+    (w.function == fields_of(recipe.word).source) & (w.port == port)
 }

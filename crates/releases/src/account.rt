@@ -1,5 +1,6 @@
 // A second account of binds and releases: what is bound is a plain list of rules, in the order in which they came, and what a bind is
 // refused for is asked of the reference.
+use accounts::reading::recipe_in;
 use accounts::sound::BenchWords;
 use bench_calls::steps::Step;
 use reference::answer::{Answer, Given, Subject, refused, wrong};
@@ -64,8 +65,8 @@ fn bind_answer(bench: &BenchWords, list: List, rule: u32) -> Answer {
         return Err(refused(Subject::Word, fault, 0));
     }
     let fields = fields_of(rule);
-    let source = bench.sources.entry_of(Kind::Source.word(fields.source));
-    let target = bench.targets.entry_of(Kind::Target.word(fields.target));
+    let source = bench.sources.entry_of(Kind::Source, fields.source);
+    let target = bench.targets.entry_of(Kind::Target, fields.target);
     if source.is_none() || (target.is_none() && fields.target != 0) {
         return Err(refused(Subject::Word, 8, 0));
     }
@@ -73,7 +74,7 @@ fn bind_answer(bench: &BenchWords, list: List, rule: u32) -> Answer {
     if list.index_of(fields.source).is_some() {
         return Err(refused(Subject::Word, 21, place));
     }
-    if !is_right(rule, bench.width) {
+    if !is_right(recipe_in(&bench.targets.words, rule), bench.width) {
         return Err(wrong(Subject::Word, fields.source, true));
     }
     Ok(Given::Nothing)

@@ -1,29 +1,15 @@
 // A checker and a pricer of mappings.
 use accounts::glue::{Costs, glue_count};
-use accounts::reading::{function, read_job, read_mapping, width_of};
+use accounts::reading::{function, index_of, read_job, read_mapping, recipe_in, width_of};
 use reference::answer::{Refusal, Subject, refused, wrong};
 use reference::recipe::fields_of;
 use reference::trial::{Witness, bears_out, is_right};
 use testing::kinds::{Kind, kind_of};
 use testing::words::{at, bindings_of, content};
 
-// The index of the word of a kind for a function.
-fn index_of(words: &[u32], of: Kind, function_sought: u32) -> Option<usize> {
-    words.iter().position(|word| (kind_of(*word) == Some(of))
-        & (function(*word) == function_sought))
-}
-
 // Whether there is a word of a kind for a function.
 pub fn has_word(words: &[u32], of: Kind, function_sought: u32) -> bool {
     index_of(words, of, function_sought).is_some()
-}
-
-// The lowest function whose binding is found wrong.
-fn first_found_wrong(mapping: &[u32], n: u32) -> Option<u32> {
-    mapping
-        .iter()
-        .find(|word| (kind_of(**word) == Some(Kind::Binding)) && !is_right(**word, n))
-        .map(|word| function(*word))
 }
 
 // The words of a job and of a mapping that is judged beside it.
@@ -64,6 +50,16 @@ impl Pair<'_> {
         glue_count(bindings_of(self.mapping), costs)
     }
 
+    // The lowest function whose binding is found wrong, by the job's targets as they are marked.
+    fn first_found_wrong(&self) -> Option<u32> {
+        let n = width_of(self.job);
+        self.mapping
+            .iter()
+            .find(|word| (kind_of(**word) == Some(Kind::Binding))
+                && !is_right(recipe_in(self.job, **word), n))
+            .map(|word| function(*word))
+    }
+
     // 1 to 8.
     fn before_pricing(&self) -> Result<(), Refusal> {
         let of_job = read_job(self.job)?;
@@ -95,7 +91,7 @@ impl Pair<'_> {
     // What a checker answers, 10 as far as it is found.
     pub fn check(&self) -> Result<(), Refusal> {
         self.before_rightness()?;
-        if let Some(function) = first_found_wrong(self.mapping, width_of(self.job)) {
+        if let Some(function) = self.first_found_wrong() {
             return Err(wrong(Subject::Both, function, true));
         }
         let last = self.mapping.len().wrapping_sub(1);
@@ -112,10 +108,11 @@ impl Pair<'_> {
         let Some(index) = index_of(self.mapping, Kind::Binding, witness.function) else {
             return false;
         };
-        let is_lowest = match first_found_wrong(self.mapping, n) {
+        let is_lowest = match self.first_found_wrong() {
             Some(found) => witness.function <= found,
             None => true,
         };
-        self.before_rightness().is_ok() & bears_out(at(self.mapping, index), n, witness) & is_lowest
+        let recipe = recipe_in(self.job, at(self.mapping, index));
+        self.before_rightness().is_ok() & bears_out(recipe, n, witness) & is_lowest
     }
 }

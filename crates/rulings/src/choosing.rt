@@ -1,10 +1,10 @@
 // A mapper: for each source it goes from the last rule back to the first, puts each usable rule behind the bindings so far, and counts
 // the glue of that list anew. The book, whose words are handed in, stands behind the job's own rules where the job asks for it. At widths
-// to 4 a rule is tried at all operands. Above them it is right if it is known to be, so that jobs of these widths may hold only
-// rules of which it is known whether they are right; those of the book are right at every width.
+// to 4 a rule is tried at all operands. Above them, of a plain target, it is right if it is known to be, so that jobs of these widths may
+// hold only rules of which it is known whether they are right; those of the book are right at every width. Of a negated one it is tried.
 use crate::checking::{Pair, has_word};
 use crate::known::is_known_right;
-use accounts::reading::{function, read_job, width_of};
+use accounts::reading::{function, read_job, recipe_in, width_of};
 use reference::answer::{Refusal, Subject, refused};
 use reference::recipe::fields_of;
 use reference::trial::is_right;
@@ -24,8 +24,9 @@ fn is_usable(job: &[u32], rule: u32, of_book: bool, source: u32) -> bool {
         return false;
     }
     let n = width_of(job);
-    if n < 5 {
-        is_right(rule, n)
+    let recipe = recipe_in(job, rule);
+    if (n < 5) | recipe.negated {
+        is_right(recipe, n)
     } else {
         of_book | is_known_right(rule)
     }

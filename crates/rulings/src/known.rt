@@ -4,6 +4,7 @@
 // own. Words are equal where no bit of their XOR is 1. SUB with a carry of 1 is the difference, whose sign is wrong exactly where it
 // overflows. What is wrong shows another function, or differs where both operands are 0, or, with the sign of SUB, where it overflows;
 // those of EQ, NEQ and GT are right at width 1, and differ above it at 0 and 1.
+use reference::negated::rewritten;
 use reference::recipe::fields_of;
 use testing::kinds::Kind;
 use testing::words::word_of;
@@ -79,4 +80,9 @@ pub fn known_rules(function: u32) -> [u32; 5] {
 pub fn is_known_right(rule: u32) -> bool {
     let known = known_rules(fields_of(rule).source);
     known[..4].contains(&rule)
+}
+
+// A recipe rewritten for a negated target; as it is where there is no such recipe, or no target.
+pub fn for_negated(recipe: u32) -> u32 {
+    rewritten(recipe).unwrap_or(recipe)
 }

@@ -1,7 +1,7 @@
 -- What stands in a job's tables of source and target words.
 use Rattle.std.specs.List.{list_any}
-use Rattle.std.specs.Prelude.{ℕ, Bool, true, false, not, List, eqb, if◌then◌else◌}
-use Rattle.words.specs.Field.{source_function, target_function}
+use Rattle.std.specs.Prelude.{ℕ, Bool, true, false, not, ◌&&◌, List, eqb, if◌then◌else◌}
+use Rattle.words.specs.Field.{source_function, target_function, target_negated}
 use Rattle.recipe.specs.Fields.{source_of, target_of, from_scratch}
 
 -- a function is among the sources
@@ -11,6 +11,10 @@ lists_source sources f = list_any (λ s. eqb (source_function s) f) sources
 -- a function is among the targets
 unfoldable pub lists_target : List ℕ → ℕ → Bool
 lists_target targets f = list_any (λ t. eqb (target_function t) f) targets
+
+-- a function is among them, negated
+unfoldable pub lists_negated : List ℕ → ℕ → Bool
+lists_negated targets f = list_any (λ t. eqb (target_function t) f && target_negated t) targets
 
 -- "its target is 0 or in the job"
 unfoldable pub has_target : List ℕ → ℕ → Bool

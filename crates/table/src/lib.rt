@@ -24,6 +24,16 @@ impl Terms<'_> {
                 .any(|entry| words::target_function(*entry) == target)
     }
 
+    // Whether a function is among the targets, negated.
+    #[tactic(auto, unfolding(crate::specs::Table::lists_negated))]
+    pub fn lists_negated(&self, function: u32) -> bool
+        ensures { result ≡ T.lists_negated self.now.targets.now function }
+    {
+        self.targets.iter().any(|entry| {
+            (words::target_function(*entry) == function) & words::target_negated(*entry)
+        })
+    }
+
     // Whether the source and the target function of a recipe are in the job.
     #[tactic(auto, unfolding(crate::specs::Table::in_job, crate::specs::Table::lists_source))]
     pub fn in_job(&self, word: u32) -> bool

@@ -33,6 +33,9 @@ pub const VECTORS: [u32; 16] = [
     0b0100, 0b0010, 0b1101, 0b1011,
 ];
 
+// The bit of a target word that marks it: the function comes negated.
+pub const MARK: u32 = 0x20;
+
 // What a lent word holds before.
 pub const LENT: u32 = 0xEEEE_EEEE;
 

@@ -4,8 +4,8 @@
 use bits::Ports;
 use reference::answer::{Refusal, Subject, refused, wrong};
 use reference::evaluator::Shown;
-use reference::recipe::Port;
-use reference::trial::{Witness, bears_out};
+use reference::recipe::{Port, Recipe};
+use reference::trial::{Witness, bears_out, is_right};
 use verdict::Verdict;
 
 // A refusal of a file, of both, or of a word.
@@ -45,20 +45,33 @@ pub fn witness_of(witness: words::Witness) -> Witness {
 }
 
 // Whether a witness shows that a recipe is wrong at a width, by the second account.
-fn is_shown(word: u32, n: u32, witness: words::Witness) -> bool {
-    bears_out(word, n, witness_of(witness))
+fn is_shown(recipe: Recipe, n: u32, witness: words::Witness) -> bool {
+    bears_out(recipe, n, witness_of(witness))
 }
 
 // A recipe that is wrong at a width, by a witness.
-pub fn wrong_of(word: u32, n: u32, witness: words::Witness) -> Refusal {
-    wrong(Subject::Word, witness.function, is_shown(word, n, witness))
+pub fn wrong_of(recipe: Recipe, n: u32, witness: words::Witness) -> Refusal {
+    wrong(
+        Subject::Word,
+        witness.function,
+        is_shown(recipe, n, witness),
+    )
 }
 
-// What the judge answers; a wrong recipe is refusal 10.
-pub fn judged(word: u32, n: u32) -> Result<(), Refusal> {
-    match verdict::judge(word, n) {
+// Whether what the judge answers of a recipe at a width is borne out: it is right by the second account, or its witness shows it wrong.
+pub fn is_borne_out(recipe: Recipe, n: u32, judged: Result<(), Refusal>) -> bool {
+    match judged {
+        Ok(()) => is_right(recipe, n),
+        Err(refusal) => (refusal.number == 10) & refusal.shown,
+    }
+}
+
+// What the judge answers of a word, a width and a mark; a wrong recipe is refusal 10.
+pub fn judged(word: u32, n: u32, mark: u32) -> Result<(), Refusal> {
+    let negated = mark == 1;
+    match verdict::judge(word, n, mark) {
         Ok(Verdict::Right) => Ok(()),
-        Ok(Verdict::Wrong(witness)) => Err(wrong_of(word, n, witness)),
+        Ok(Verdict::Wrong(witness)) => Err(wrong_of(Recipe { word, negated }, n, witness)),
         Err(refusal) => Err(refusal_of(Subject::Word, refusal)),
     }
 }

@@ -1,5 +1,5 @@
 -- The verdict on a claim: document 01, "What a binding shows" and refusal 10; and the order in which a recipe handed in is judged.
-use Rattle.std.specs.Prelude.{ℕ, ◌^◌, ◌<◌, ◌≡◌, not, [], ◌∷◌, eqb, Option, Some, None, if◌then◌else◌, Result, Ok, Err}
+use Rattle.std.specs.Prelude.{ℕ, ◌^◌, ◌<◌, ◌≡◌, not, [], ◌∷◌, eqb, ltb, Bool, Option, Some, None, if◌then◌else◌, Result, Ok, Err}
 use Rattle.std.specs.Bool.{beq}
 use Rattle.words.specs.Field.{kind_of}
 use Rattle.words.specs.Kinds.{is_recipe}
@@ -14,7 +14,7 @@ use Rattle.alu.specs.Range.{is_width}
 use Rattle.bits.specs.declared.Ports.{Ports}
 use Rattle.layout.specs.Layout.{recipe_fault}
 use Rattle.binding.specs.Binding.{side_shows, shows}
-use Rattle.binding.specs.Right.{Right, claim_of}
+use Rattle.binding.specs.Right.{Right, claim_against}
 use Rattle.binding.specs.declared.Claim.{Claim}
 use Rattle.verdict.specs.declared.Verdict.{Verdict}
 use Rattle.verdict.specs.declared.Verdict.TheVariants.{Right as IsRight, Wrong}
@@ -57,7 +57,7 @@ pub data Ruling (A : Type 0) : Type 0 where
   Gives : A → Ruling A
   Names : Claim → ℕ → Ruling A
 
--- ---- a recipe word and a width handed in by anybody
+-- ---- a recipe word, a width and a mark handed in by anybody
 
 -- what is said of them: a refusal, or a verdict on a claim at a width
 pub data Sentence : Type 0 where
@@ -69,11 +69,18 @@ abbrev pub unless : Option Fault → Sentence → Sentence
 unless (Some fault) next = Refuses (refusal fault 0)
 unless None next = next
 
--- a kind that is neither a rule's nor a binding's: 2; then 3, 5 and 6 of the word, place 0; then the width, place 1
-unfoldable pub judge_of : ℕ → ℕ → Sentence
-judge_of w n =
+-- request #105: whether the word's target is negated, 1 or 0
+abbrev pub is_mark : ℕ → Bool
+is_mark mark = ltb mark 2
+
+-- a kind that is neither a rule's nor a binding's: 2; then 3, 5 and 6 of the word, place 0; then the width, place 1; then the mark, place 2
+unfoldable pub judge_of : ℕ → ℕ → ℕ → Sentence
+judge_of w n mark =
     if not (is_recipe (kind_of w)) then Refuses (refusal OutOfSequence 0)
-    else unless (recipe_fault w) (if not (is_width n) then Refuses (refusal NotLaidOut 1) else Decides (claim_of w) n)
+    else unless (recipe_fault w)
+    (if not (is_width n) then Refuses (refusal NotLaidOut 1)
+    else if not (is_mark mark) then Refuses (refusal NotLaidOut 2)
+    else Decides (claim_against (eqb mark 1) w) n)
 
 abbrev pub Passes : Sentence → Result Verdict Refusal → Type 0
 Passes (Refuses r) (Err q) = q ≡ r
@@ -81,8 +88,8 @@ Passes (Refuses r) (Ok v) = ⊥
 Passes (Decides c n) (Err q) = ⊥
 Passes (Decides c n) (Ok v) = Says c n v
 
-abbrev pub Judged : ℕ → ℕ → Result Verdict Refusal → Type 0
-Judged w n j = Passes (judge_of w n) j
+abbrev pub Judged : ℕ → ℕ → ℕ → Result Verdict Refusal → Type 0
+Judged w n mark j = Passes (judge_of w n mark) j
 
 -- the judgement in document 01's numbers
 abbrev pub judgement_paper : Result Verdict Refusal → Paper

@@ -69,10 +69,11 @@ pub fn is_right(claim: Claim, width: Width) -> bool
     matches!(verdict_on(claim, width), Verdict::Right)
 }
 
-// Judges a recipe word and a width handed in by anybody: 2 for a kind that is no recipe's; then 3, 5 and 6 of the word, place 0; then 3 for the width, place 1.
+// Judges a recipe word, a width and a mark handed in by anybody: 2 for a kind that is no recipe's; then 3, 5 and 6 of the word, place 0; then 3
+// for the width, place 1, and for the mark, place 2.
 #[tactic(auto, using(alu::proofs::Shown::has_width), unfolding(crate::specs::Verdicts::judge_of))]
-pub fn judge(word: u32, width: u32) -> Result<Verdict, Refusal>
-    ensures { D.Judged word width result }
+pub fn judge(word: u32, width: u32, mark: u32) -> Result<Verdict, Refusal>
+    ensures { D.Judged word width mark result }
 {
     if !words::is_recipe(words::kind_of(word)) {
         return Err(Refusal {
@@ -89,5 +90,12 @@ pub fn judge(word: u32, width: u32) -> Result<Verdict, Refusal>
             place: 1,
         });
     }
-    Ok(verdict_on(binding::claim_of(word), Width { n: width }))
+    if 2 <= mark {
+        return Err(Refusal {
+            fault: Fault::NotLaidOut,
+            place: 2,
+        });
+    }
+    let claim = binding::claim_against(mark == 1, word);
+    Ok(verdict_on(claim, Width { n: width }))
 }

@@ -11,7 +11,7 @@ fn wrong(rt: &HostRuntime, tally: &mut Tally, case: Case, left: u64, right: u64)
     let named = [0, 1].iter().all(|carry| {
         let carry = *carry;
         let operands = Operands { left, right, carry };
-        first_difference(case.word, case.width, operands) == Ok(Some(Port::O1))
+        first_difference(case.recipe(), case.width, operands) == Ok(Some(Port::O1))
     });
     case.count(rt, tally, trial.holds & !trial.right & named);
 }
@@ -22,6 +22,7 @@ fn right(rt: &HostRuntime, tally: &mut Tally, word: u32, widths: &[u32]) {
         let case = Case {
             word,
             width: *width,
+            mark: 0,
         };
         let trial = case.tried();
         case.count(rt, tally, trial.holds & trial.right);
@@ -30,7 +31,11 @@ fn right(rt: &HostRuntime, tally: &mut Tally, word: u32, widths: &[u32]) {
 
 pub fn report_cases(rt: &HostRuntime) {
     let mut tally = Tally::default();
-    let case = |word, width| Case { word, width };
+    let case = |word, width| Case {
+        word,
+        width,
+        mark: 0,
+    };
     wrong(rt, &mut tally, case(0x5C89_4407, 8), 127, 255);
     right(rt, &mut tally, 0x5C89_440C, &WIDTHS);
     wrong(rt, &mut tally, case(0x5C8A_240B, 8), 0, 0);

@@ -34,6 +34,7 @@ pub fn case_at(content: u32, width: u32) -> Case {
     Case {
         word: kind | content,
         width,
+        mark: 0,
     }
 }
 

@@ -1,4 +1,4 @@
-// The refusals of the judge, against those that the reference finds in the same word and width.
+// The refusals of the judge, against those that the reference finds in the same word, width and mark.
 ghost use Rattle.std.specs.Prelude.{◌<◌};
 
 use crate::stored::RECIPES;
@@ -8,11 +8,13 @@ use reference::trial::next;
 use testing::say;
 use testing::tally::{Numbers, more};
 
-// The index of the count, by what the reference refuses: 0 for nothing, 1 for the width, or the word's number.
+// The index of the count, by what the reference refuses: 0 for nothing, 1 for the width, 4 for the mark, or the word's number, which is 2, 3, 5
+// or 6.
 fn group(refusal: Option<Refusal>) -> usize {
     match refusal {
         None => 0,
         Some(refusal) if refusal.place == 1 => 1,
+        Some(refusal) if refusal.place == 2 => 4,
         Some(refusal) => (refusal.number % 12) as usize,
     }
 }
@@ -59,35 +61,47 @@ fn with_one_field(word: u32, i: u32) -> u32 {
 
 const FOUR: [u32; 4] = [0, 1, 64, 65];
 
+// The stored recipes, each with every value of every field.
+const CHANGED: u32 = 280 * 128;
+
 // Every word of kind 5; a random word at four widths; a stored recipe with one field changed, at a width that is mostly 0, 1 or 65, which
-// are judged at once.
+// are judged at once; and such a recipe at each of three widths and four marks.
 #[derive(Clone, Copy, PartialEq, Eq)]
 enum Lot {
     EveryWord,
     AtRandom,
     OneField,
+    Marked,
 }
 
-// The i-th word and width of a lot.
+// The i-th word, width and mark of a lot.
 fn case_of(lot: Lot, i: u32, random: u64) -> Case {
     match lot {
         Lot::EveryWord => Case {
             word: 0x5000_0000 | i,
             width: 65,
+            mark: 0,
         },
         Lot::AtRandom => {
             let turn = (i % 4) as usize;
             Case {
                 word: (random >> 32) as u32,
                 width: FOUR[turn],
+                mark: 0,
             }
         }
         Lot::OneField => with_field_changed(i),
+        Lot::Marked => marked(i),
     }
 }
 
-fn with_field_changed(i: u32) -> Case {
+// A stored recipe with one field changed.
+fn changed(i: u32) -> u32 {
     let recipe = (i / 128 % 280) as usize;
+    with_one_field(RECIPES[recipe], i % 128)
+}
+
+fn with_field_changed(i: u32) -> Case {
     let field = i % 128;
     let width = match (field ^ (i / 128)) % 16 {
         0..=4 => 0,
@@ -96,8 +110,19 @@ fn with_field_changed(i: u32) -> Case {
         _ => 64,
     };
     Case {
-        word: with_one_field(RECIPES[recipe], field),
+        word: changed(i),
         width,
+        mark: 0,
+    }
+}
+
+// The last width and the last mark that pass, and others, which do not.
+fn marked(i: u32) -> Case {
+    let turn = i / CHANGED;
+    Case {
+        word: changed(i),
+        width: [64, 0, 65][(turn / 4 % 3) as usize],
+        mark: [1, 2, 3, 0xffff_ffff][(turn % 4) as usize],
     }
 }
 
@@ -121,10 +146,14 @@ fn report(rt: &HostRuntime, name: &[u8], all: Numbers) {
     let tally = all.tally;
     let by = all.by;
     say::text(rt, name);
-    let _ = println!(rt;
-        ": {tally}; refused 2: {}, 3: {}, 5: {}, 6: {}, 3 for the width: {}, not refused: {}",
-        by[2], by[3], by[5], by[6], by[1], by[0]
+    let _ = print!(rt;
+        ": {tally}; refused 2: {}, 3: {}, 5: {}, 6: {}, 3 for the width: {}",
+        by[2], by[3], by[5], by[6], by[1]
     );
+    if 0 < by[4] {
+        let _ = print!(rt; ", 3 for the mark: {}", by[4]);
+    }
+    let _ = println!(rt; ", not refused: {}", by[0]);
 }
 
 pub fn report_refusals(rt: &HostRuntime) {
@@ -141,6 +170,11 @@ pub fn report_refusals(rt: &HostRuntime) {
     report(
         rt,
         b"recipes with one field changed, at one of these widths",
-        compared(rt, Lot::OneField, 35840),
+        compared(rt, Lot::OneField, CHANGED),
+    );
+    report(
+        rt,
+        b"the same at widths 64, 0 and 65 and marks 1, 2, 3 and 4294967295",
+        compared(rt, Lot::Marked, 12 * CHANGED),
     );
 }

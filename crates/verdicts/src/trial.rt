@@ -1,16 +1,17 @@
 // One verdict of the judge, tried by the reference. A right one is tried at operands, all of them at small widths. A wrong one is tried
 // at its own operands, so it is borne out only if the recipe is wrong.
 use reference::answer::Refusal;
+use reference::recipe::Recipe;
 use reference::refusal::refusal_of;
-use reference::trial::is_right;
 use testing::say;
 use testing::tally::Tally;
 
-// A recipe's word and a width, about which the judge and the reference are asked.
+// A recipe's word, a width and a mark, about which the judge and the reference are asked.
 #[derive(Clone, Copy)]
 pub struct Case {
     pub word: u32,
     pub width: u32,
+    pub mark: u32,
 }
 
 // Whether a verdict is borne out, and whether it says right.
@@ -26,33 +27,39 @@ fn numbers_of(refusal: Option<Refusal>) -> (u32, usize) {
 }
 
 impl Case {
+    // The recipe, whose target the mark says to be negated.
+    pub fn recipe(self) -> Recipe {
+        Recipe {
+            word: self.word,
+            negated: self.mark == 1,
+        }
+    }
+
     // What the judge says. A wrong recipe is refusal 10.
     pub fn judged(self) -> Result<(), Refusal> {
-        told::judged(self.word, self.width)
+        told::judged(self.word, self.width, self.mark)
     }
 
     // What the reference refuses.
     pub fn refused(self) -> Option<Refusal> {
-        refusal_of(self.word, self.width)
+        refusal_of(self.word, self.width, self.mark)
     }
 
     pub fn tried(self) -> Trial {
-        match self.judged() {
-            Ok(()) => Trial {
-                holds: is_right(self.word, self.width),
-                right: true,
-            },
-            Err(refusal) => Trial {
-                holds: (refusal.number == 10) & refusal.shown,
-                right: false,
-            },
+        let judged = self.judged();
+        Trial {
+            holds: told::is_borne_out(self.recipe(), self.width, judged),
+            right: judged.is_ok(),
         }
     }
 
     fn say_difference(self, rt: &HostRuntime) {
         say::word(rt, b"differs: ", self.word);
         let (number, place) = numbers_of(self.judged().err());
-        let _ = print!(rt; " at width {}; judge: {number} {place}", self.width);
+        let _ = print!(rt;
+            " at width {}, mark {}; judge: {number} {place}",
+            self.width, self.mark
+        );
         let (number, place) = numbers_of(self.refused());
         let _ = println!(rt; "; reference: {number} {place}");
     }

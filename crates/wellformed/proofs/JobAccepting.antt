@@ -8,7 +8,7 @@ use native.Mathlib.Omega.{arith}
 use lib.ListN.{length, drop, get_or, drop_of_length-le, length-append, get_or-append}
 use lib.Seq.{get_or-append-add}
 use borrow.Author.Tests.{le-ltb}
-use Rattle.words.specs.Field.{field, content_of}
+use Rattle.words.specs.Field.{field, content_of, target_function}
 use Rattle.words.specs.Kinds.{HEADER, PRICES, SOURCE, TARGET}
 use Rattle.words.specs.declared.kind.WordKind.TheVariants.{Source, Target}
 use Rattle.sequence.specs.Limits.{most_sources, most_targets}
@@ -22,7 +22,7 @@ use Rattle.std.specs.Prelude.{Ok}
 use Rattle.reader.specs.declared.Job.{Job}
 use Rattle.words.specs.declared.Prices.{Prices}
 use Rattle.grammar.proofs.Steps.{first_of_kind}
-use Rattle.wellformed.proofs.Parts.{Entry, kind_of-laid, content_of-laid}
+use Rattle.wellformed.proofs.Parts.{SourceWord, TargetWord, kind_of-laid, content_of-laid}
 use Rattle.wellformed.proofs.Headers.{the_width, the_book, fits_a_job}
 use Rattle.wellformed.proofs.JobWords.{JobFacts}
 use Rattle.reader.proofs.Limits.{some_words}
@@ -117,10 +117,10 @@ module _ (width : ℕ) (p : Prices) (ss ts : List ℕ) where
 
   pub laid_well_formed : 1 ≤ width → width ≤ 64 → p.inverter ≤ 255 → p.gate ≤ 255 → p.multiplexer ≤ 255
       → 1 ≤ length ss → length ss ≤ most_sources → length ts ≤ most_targets
-      → ((m : ℕ) → m < length ss → Entry SOURCE (get_or ss m 0))
+      → ((m : ℕ) → m < length ss → SourceWord (get_or ss m 0))
       → ((m : ℕ) → m + 1 < length ss → content_of (get_or ss m 0) < content_of (get_or ss (m + 1) 0))
-      → ((m : ℕ) → m < length ts → Entry TARGET (get_or ts m 0))
-      → ((m : ℕ) → m + 1 < length ts → content_of (get_or ts m 0) < content_of (get_or ts (m + 1) 0))
+      → ((m : ℕ) → m < length ts → TargetWord (get_or ts m 0))
+      → ((m : ℕ) → m + 1 < length ts → target_function (get_or ts m 0) < target_function (get_or ts (m + 1) 0))
       → JobFacts laid (record { width = width; prices = p; sources = length ss; targets = length ts; rules = 0; book = false })
   laid_well_formed least most a b c some few_sources few_targets sources sources_rise targets targets_rise =
       record {
@@ -138,13 +138,13 @@ module _ (width : ℕ) (p : Prices) (ss ts : List ℕ) where
         header = content_of-laid HEADER width (omega arith) ∙ sym (add-zero width);
         prices_kind = kind_of-laid PRICES (laid_prices p) (omega arith) (omega arith);
         prices = content_of-laid PRICES (laid_prices p) (omega arith);
-        source_words = λ m h. subst (Entry SOURCE) (sym (laid_source m h)) (sources m h);
+        source_words = λ m h. subst SourceWord (sym (laid_source m h)) (sources m h);
         sources_rise =
             λ m h.
             omega (arith, sources_rise m h, ap content_of (laid_source m (omega arith)), ap content_of (laid_source (m + 1) h));
-        target_words = λ m h. subst (Entry TARGET) (sym (laid_target m)) (targets m h);
+        target_words = λ m h. subst TargetWord (sym (laid_target m)) (targets m h);
         targets_rise =
             λ m h.
-            omega (arith, targets_rise m h, ap content_of (laid_target m), ap content_of (laid_target (m + 1)));
+            omega (arith, targets_rise m h, ap target_function (laid_target m), ap target_function (laid_target (m + 1)));
         rule_words = λ m h. absurd (omega arith);
       }

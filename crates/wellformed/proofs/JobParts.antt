@@ -8,7 +8,7 @@ use native.Mathlib.Omega.{arith}
 use lib.Dec.{eqb}
 use lib.ListN.{length, drop, get_or}
 use borrow.Author.Tests.{lt-ltb}
-use Rattle.words.specs.Field.{kind_of, content_of}
+use Rattle.words.specs.Field.{kind_of, content_of, target_function}
 use Rattle.words.proofs.Choices.{and_join}
 use Rattle.words.specs.Kinds.{HEADER, PRICES, SOURCE, TARGET, RULE, kind_number, is_recipe}
 use Rattle.words.specs.declared.kind.WordKind.{WordKind}
@@ -21,7 +21,7 @@ use Rattle.sequence.specs.declared.File.TheVariants.{AsJob}
 use Rattle.sequence.specs.declared.State.{State}
 use Rattle.reader.specs.declared.Job.{Job}
 use Rattle.grammar.proofs.Steps.{by_kind, no_order, first_of_kind}
-use Rattle.wellformed.proofs.Parts.{Entry, RecipeWord}
+use Rattle.wellformed.proofs.Parts.{SourceWord, TargetWord, RecipeWord}
 use Rattle.grammar.proofs.Faultless.{Faultless}
 use Rattle.wellformed.proofs.Words.{is_function_lem, no_outputs, recipe_outputs, function_of-source, function_of-target, rises_above}
 use Rattle.wellformed.proofs.JobWords.{JobFacts}
@@ -57,7 +57,7 @@ module _ (s : State) (w : ℕ) where
         outputs = no_outputs w PRICES k refl;
       }
 
-  free_source : PRICES ≤ stage_of s → stage_of s ≤ SOURCE → s.sources < most_sources → Entry SOURCE w → rises s w ≡ true → Faultless AsJob s w
+  free_source : PRICES ≤ stage_of s → stage_of s ≤ SOURCE → s.sources < most_sources → SourceWord w → rises s w ≡ true → Faultless AsJob s w
   unfolding in_sequence job_sequence is_recipe
   free_source a b few r order =
       let k = r.kind_is in
@@ -68,13 +68,15 @@ module _ (s : State) (w : ℕ) where
         outputs = no_outputs w SOURCE k refl;
       }
 
-  free_target : SOURCE ≤ stage_of s → stage_of s ≤ TARGET → s.targets < most_targets → Entry TARGET w → rises s w ≡ true → Faultless AsJob s w
+  free_target : SOURCE ≤ stage_of s → stage_of s ≤ TARGET → s.targets < most_targets → TargetWord w → rises s w ≡ true → Faultless AsJob s w
   unfolding in_sequence job_sequence is_recipe
   free_target a b few r order =
       let k = r.kind_is in
       record {
         in_sequence_lem = rw k (and_join (one_of_two (stage_of s) SOURCE a b) (lt-ltb s.targets most_targets few));
-        layout = sym (by_kind AsJob w Target k) ∙ is_function_lem (content_of w) r.least r.most;
+        layout =
+            sym (by_kind AsJob w Target k)
+            ∙ and_join (lt-ltb (content_of w) (2 ^ 6) r.to_mark) (is_function_lem (target_function w) r.least r.most);
         order = order;
         outputs = no_outputs w TARGET k refl;
       }
@@ -156,15 +158,15 @@ pub record InRules (n m j : ℕ) (s : State) : Type 0 where
 
 module _ (ws : List ℕ) (job : Job) (q : JobFacts ws job) where
   -- the words of a part rise by the functions that the reader compares
-  rise_at : (k start n : ℕ) → ((w : ℕ) → Entry k w → function_in w ≡ content_of w)
-      → ((m : ℕ) → m < n → Entry k (get_or ws (start + m) 0))
-      → ((m : ℕ) → m + 1 < n → content_of (get_or ws (start + m) 0) < content_of (get_or ws (start + (m + 1)) 0))
+  rise_at : (P : ℕ → Type 0) (f : ℕ → ℕ) (start n : ℕ) → ((w : ℕ) → P w → function_in w ≡ f w)
+      → ((m : ℕ) → m < n → P (get_or ws (start + m) 0))
+      → ((m : ℕ) → m + 1 < n → f (get_or ws (start + m) 0) < f (get_or ws (start + (m + 1)) 0))
       → (j : ℕ) → j < n → 1 ≤ j → (p : ℕ) → p + 1 ≡ start + j → function_in (get_or ws p 0) < function_in (get_or ws (start + j) 0)
-  rise_at k start n same each rise zero h g p e = absurd (omega arith)
-  rise_at k start n same each rise (suc j) h g p e =
+  rise_at P f start n same each rise zero h g p e = absurd (omega arith)
+  rise_at P f start n same each rise (suc j) h g p e =
       let a : p ≡ start + j = omega arith in
       let b : j + 1 ≡ suc j = omega arith in
-      let r = subst (λ (x : ℕ). content_of (get_or ws (start + j) 0) < content_of (get_or ws (start + x) 0)) b (rise j (omega arith)) in
+      let r = subst (λ (x : ℕ). f (get_or ws (start + j) 0) < f (get_or ws (start + x) 0)) b (rise j (omega arith)) in
       subst (λ (x : ℕ). function_in (get_or ws x 0) < function_in (get_or ws (start + suc j) 0)) (sym a)
       (omega (
         arith,
@@ -184,7 +186,7 @@ module _ (ws : List ℕ) (job : Job) (q : JobFacts ws job) where
       part ws 2 job.sources (InSources ws) (omega (arith, q.size))
       (λ j t h r. free_source t _ r.least r.most (omega (arith, r.sources, q.sources_most)) (q.source_words j h)
       (r.order _ (q.source_words j h).kind_is
-      (rise_at SOURCE 2 job.sources function_of-source q.source_words q.sources_rise j h)))
+      (rise_at SourceWord content_of 2 job.sources function_of-source q.source_words q.sources_rise j h)))
       (λ j t h r. let k = (q.source_words j h).kind_is in
       record {
         least = rw k (omega arith);
@@ -203,7 +205,7 @@ module _ (ws : List ℕ) (job : Job) (q : JobFacts ws job) where
       part ws (targets_start job) job.targets (InTargets ws job.sources) (omega (arith, q.size))
       (λ j t h r. free_target t _ r.least r.most (omega (arith, r.targets, q.targets_most)) (q.target_words j h)
       (r.order _ (q.target_words j h).kind_is
-      (rise_at TARGET (targets_start job) job.targets function_of-target q.target_words q.targets_rise j h)))
+      (rise_at TargetWord target_function (targets_start job) job.targets function_of-target q.target_words q.targets_rise j h)))
       (λ j t h r. let k = (q.target_words j h).kind_is in
       record {
         least = rw k (omega arith);

@@ -6,7 +6,7 @@ use native.Mathlib.Omega.{arith}
 use lib.Dec.{ltb}
 use lib.ListN.{length, get_or}
 use borrow.Author.Tests.{ltb-false}
-use Rattle.words.specs.Field.{field, kind_of, content_of}
+use Rattle.words.specs.Field.{field, kind_of, content_of, target_function}
 use Rattle.words.proofs.Fields.{field_lt}
 use Rattle.words.proofs.Choices.{either}
 use Rattle.words.specs.Kinds.{HEADER, PRICES, SOURCE, TARGET, RULE}
@@ -24,11 +24,11 @@ use Rattle.sequence.specs.declared.State.{State}
 use Rattle.std.specs.Prelude.{Result, Ok, Err}
 use Rattle.reader.specs.declared.Job.{Job}
 use Rattle.reader.proofs.Limits.{were_read}
-use Rattle.wellformed.proofs.Parts.{Each, Rising, Entry, RecipeWord, each_none, each_more, rising_none, rising_more, rising_as}
+use Rattle.wellformed.proofs.Parts.{Each, Rising, SourceWord, TargetWord, RecipeWord, each_none, each_more, rising_none, rising_more, rising_as}
 use Rattle.grammar.proofs.Faultless.{Faultless, passed}
 use Rattle.grammar.proofs.Stages.{by_kind}
 use Rattle.wellformed.proofs.Headers.{header_whole}
-use Rattle.wellformed.proofs.Words.{Last, HeaderFirst, header_first, last_more, prices_range, source_entry, target_entry, rule_word, function_of-source, function_of-target, risen}
+use Rattle.wellformed.proofs.Words.{Last, HeaderFirst, header_first, last_more, prices_range, source_word, target_word, rule_word, function_of-source, function_of-target, risen}
 
 -- ---- what the words so far hold
 
@@ -49,9 +49,9 @@ record Held (ws : List ℕ) (s : State) (i : ℕ) : Type 0 where
   last : Last ws s i
   header : 1 ≤ stage_of s → HeaderFirst AsJob ws
   prices : 2 ≤ stage_of s → (kind_of (get_or ws 1 0) ≡ PRICES) × (content_of (get_or ws 1 0) < 2 ^ 24)
-  source_words : Each (Entry SOURCE) ws 2 s.sources
+  source_words : Each SourceWord ws 2 s.sources
   sources_rise : Rising function_in ws 2 s.sources
-  target_words : Each (Entry TARGET) ws (2 + s.sources) s.targets
+  target_words : Each TargetWord ws (2 + s.sources) s.targets
   targets_rise : Rising function_in ws (2 + s.sources) s.targets
   rule_words : Each (RecipeWord RULE) ws (2 + s.sources + s.targets) s.rules
 
@@ -63,9 +63,9 @@ module _ (ws : List ℕ) where
         last = λ p h. absurd (omega arith);
         header = λ h. absurd (omega arith);
         prices = λ h. absurd (omega arith);
-        source_words = each_none ws 2 0 (Entry SOURCE) refl;
+        source_words = each_none ws 2 0 SourceWord refl;
         sources_rise = rising_none ws 2 0 function_in refl;
-        target_words = each_none ws 2 0 (Entry TARGET) refl;
+        target_words = each_none ws 2 0 TargetWord refl;
         targets_rise = rising_none ws 2 0 function_in refl;
         rule_words = each_none ws 2 0 (RecipeWord RULE) refl;
       }
@@ -113,11 +113,11 @@ module _ (ws : List ℕ) where
           last = last_more ws i;
           header = λ _. q.header (omega arith);
           prices = λ _. q.prices (omega arith);
-          source_words = each_more ws 2 s.sources (Entry SOURCE) i z q.source_words (source_entry AsJob s _ g e);
+          source_words = each_more ws 2 s.sources SourceWord i z q.source_words (source_word AsJob s _ g e);
           sources_rise =
               rising_more ws 2 s.sources function_in i z q.sources_rise
               (risen ws s i Source 2 s.sources q.last z (λ n. omega arith) (λ x. cc) e g.order);
-          target_words = each_none ws (2 + (s.sources + 1)) s.targets (Entry TARGET) (omega arith);
+          target_words = each_none ws (2 + (s.sources + 1)) s.targets TargetWord (omega arith);
           targets_rise = rising_none ws (2 + (s.sources + 1)) s.targets function_in (omega arith);
           rule_words = each_none ws (2 + (s.sources + 1) + s.targets) s.rules (RecipeWord RULE) (omega arith);
         }
@@ -132,7 +132,7 @@ module _ (ws : List ℕ) where
           prices = λ _. q.prices (omega arith);
           source_words = q.source_words;
           sources_rise = q.sources_rise;
-          target_words = each_more ws (2 + s.sources) s.targets (Entry TARGET) i z q.target_words (target_entry AsJob s _ g e);
+          target_words = each_more ws (2 + s.sources) s.targets TargetWord i z q.target_words (target_word AsJob s _ g e);
           targets_rise =
               rising_more ws (2 + s.sources) s.targets function_in i z q.targets_rise
               (risen ws s i Target (2 + s.sources) s.targets q.last z (λ n. omega arith) (λ x. cc) e g.order);
@@ -177,10 +177,10 @@ pub record JobFacts (ws : List ℕ) (job : Job) : Type 0 where
   pub header : content_of (get_or ws 0 0) ≡ job.width + num job.book * 2 ^ 7
   pub prices_kind : kind_of (get_or ws 1 0) ≡ PRICES
   pub prices : content_of (get_or ws 1 0) ≡ job.prices.inverter * 2 ^ 16 + job.prices.gate * 2 ^ 8 + job.prices.multiplexer
-  pub source_words : Each (Entry SOURCE) ws sources_start job.sources
+  pub source_words : Each SourceWord ws sources_start job.sources
   pub sources_rise : Rising content_of ws sources_start job.sources
-  pub target_words : Each (Entry TARGET) ws (targets_start job) job.targets
-  pub targets_rise : Rising content_of ws (targets_start job) job.targets
+  pub target_words : Each TargetWord ws (targets_start job) job.targets
+  pub targets_rise : Rising target_function ws (targets_start job) job.targets
   pub rule_words : Each (RecipeWord RULE) ws (rules_start job) job.rules
 
 -- the prices take up the whole content of their word
@@ -210,11 +210,11 @@ from_held ws s h q =
       prices = prices_whole (get_or ws 1 0) prices.1;
       source_words = q.source_words;
       sources_rise =
-          rising_as ws 2 s.sources function_in (Entry SOURCE) content_of function_of-source q.source_words
+          rising_as ws 2 s.sources function_in SourceWord content_of function_of-source q.source_words
           q.sources_rise;
       target_words = q.target_words;
       targets_rise =
-          rising_as ws (2 + s.sources) s.targets function_in (Entry TARGET) content_of function_of-target
+          rising_as ws (2 + s.sources) s.targets function_in TargetWord target_function function_of-target
           q.target_words q.targets_rise;
       rule_words = q.rule_words;
     }

@@ -8,7 +8,8 @@ use native.Mathlib.Omega.{arith}
 use borrow.Author.Count.{below_more}
 use lib.ListN.{get_or}
 use Rattle.std.specs.Prelude.{None}
-use Rattle.words.specs.Field.{kind_of, content_of}
+use Rattle.words.specs.Field.{kind_of, content_of, target_function}
+use Rattle.words.specs.Kinds.{SOURCE, TARGET}
 use Rattle.layout.specs.Layout.{recipe_fault}
 
 -- P holds of each of the n words from an index on
@@ -19,11 +20,18 @@ Each P ws start n = (m : ℕ) → m < n → P (get_or ws (start + m) 0)
 abbrev pub Rising : (ℕ → ℕ) → List ℕ → ℕ → ℕ → Type 0
 Rising f ws start n = (m : ℕ) → m + 1 < n → f (get_or ws (start + m) 0) < f (get_or ws (start + (m + 1)) 0)
 
--- a source or target word: a kind and a function's number
-pub record Entry (kind w : ℕ) : Type 0 where
-  pub kind_is : kind_of w ≡ kind
+-- a source word: a function's number
+pub record SourceWord (w : ℕ) : Type 0 where
+  pub kind_is : kind_of w ≡ SOURCE
   pub least : 1 ≤ content_of w
   pub most : content_of w ≤ 27
+
+-- a target word: a function's number, and a mark above it
+pub record TargetWord (w : ℕ) : Type 0 where
+  pub kind_is : kind_of w ≡ TARGET
+  pub to_mark : content_of w < 2 ^ 6
+  pub least : 1 ≤ target_function w
+  pub most : target_function w ≤ 27
 
 -- a rule or binding word: a kind and a recipe that passes 3, 5 and 6
 pub record RecipeWord (kind w : ℕ) : Type 0 where

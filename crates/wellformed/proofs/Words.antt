@@ -8,13 +8,13 @@ use lib.Dec.{ltb}
 use lib.ListN.{get_or}
 use borrow.Author.Tests.{lt-ltb, le-ltb, le-leb, leb-true, ltb-true, ltb-false, not-false}
 use Rattle.std.specs.Prelude.{Option, Some, None}
-use Rattle.words.specs.Field.{field, kind_of, content_of}
+use Rattle.words.specs.Field.{field, kind_of, content_of, target_function}
 use Rattle.words.specs.Kinds.{HEADER, PRICES, SOURCE, TARGET, RULE, BINDING, kind_number, kind_named, is_recipe}
 use Rattle.words.specs.declared.kind.WordKind.{WordKind}
 use Rattle.words.specs.declared.kind.WordKind.TheVariants.{Header, Prices, Source, Target, Rule, Binding}
 use Rattle.words.specs.declared.Fault.{Fault}
 use Rattle.words.proofs.Named.{named_back}
-use Rattle.words.proofs.Choices.{either}
+use Rattle.words.proofs.Choices.{either, and_split}
 use Rattle.alu.specs.Range.{is_function}
 use Rattle.bits.specs.Asked.{Width}
 use Rattle.recipe.specs.Fields.{source_of}
@@ -25,7 +25,7 @@ use Rattle.sequence.specs.declared.File.{File}
 use Rattle.sequence.specs.declared.State.{State}
 use Rattle.grammar.proofs.Steps.{by_kind, rising_by, next_of_kind}
 use Rattle.grammar.proofs.Faultless.{Faultless}
-use Rattle.wellformed.proofs.Parts.{Entry, RecipeWord}
+use Rattle.wellformed.proofs.Parts.{SourceWord, TargetWord, RecipeWord}
 
 -- ---- numbers in range
 
@@ -77,14 +77,16 @@ module _ (file : File) (s : State) (w : ℕ) (g : Faultless file s w) where
   pub prices_range : kind_of w ≡ PRICES → content_of w < 2 ^ 24
   prices_range e = ltb-true (content_of w) (2 ^ 24) (by_kind file w Prices e ∙ g.layout)
 
-  entry : (k : ℕ) → kind_of w ≡ k → is_function (content_of w) ≡ true → Entry k w
-  entry k e h = let r = in_range_lem (content_of w) h in record { kind_is = e; least = r.0; most = r.1 }
+  pub source_word : kind_of w ≡ SOURCE → SourceWord w
+  source_word e =
+      let r = in_range_lem (content_of w) (by_kind file w Source e ∙ g.layout) in
+      record { kind_is = e; least = r.0; most = r.1 }
 
-  pub source_entry : kind_of w ≡ SOURCE → Entry SOURCE w
-  source_entry e = entry SOURCE e (by_kind file w Source e ∙ g.layout)
-
-  pub target_entry : kind_of w ≡ TARGET → Entry TARGET w
-  target_entry e = entry TARGET e (by_kind file w Target e ∙ g.layout)
+  pub target_word : kind_of w ≡ TARGET → TargetWord w
+  target_word e =
+      let parts = and_split (ltb (content_of w) (2 ^ 6)) (is_function (target_function w)) (by_kind file w Target e ∙ g.layout) in
+      let r = in_range_lem (target_function w) parts.1 in
+      record { kind_is = e; to_mark = ltb-true (content_of w) (2 ^ 6) parts.0; least = r.0; most = r.1 }
 
   recipe_word : (k : ℕ) → kind_of w ≡ k → is_recipe k ≡ true → laid_out w ≡ fits file w → RecipeWord k w
   recipe_word k e r f =
@@ -99,10 +101,10 @@ module _ (file : File) (s : State) (w : ℕ) (g : Faultless file s w) where
   unfolding is_recipe
   binding_word e = recipe_word BINDING e refl (by_kind file w Binding e)
 
-pub function_of-source : (w : ℕ) → Entry SOURCE w → function_in w ≡ content_of w
+pub function_of-source : (w : ℕ) → SourceWord w → function_in w ≡ content_of w
 function_of-source w e = sym (rising_by w Source e.kind_is)
 
-pub function_of-target : (w : ℕ) → Entry TARGET w → function_in w ≡ content_of w
+pub function_of-target : (w : ℕ) → TargetWord w → function_in w ≡ target_function w
 function_of-target w e = sym (rising_by w Target e.kind_is)
 
 pub function_of-binding : (w : ℕ) → RecipeWord BINDING w → function_in w ≡ source_of w

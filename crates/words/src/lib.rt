@@ -6,7 +6,7 @@ mod kind;
 mod port;
 
 ghost use Rattle.std.specs.Prelude.{◌≡◌};
-ghost use Rattle.words.specs.Field.{content_of, source_function, target_function};
+ghost use Rattle.words.specs.Field.{content_of, source_function, target_function, target_negated};
 ghost use Rattle.words.specs.Paper.{number_of};
 
 pub use kind::{NoKind, Word, WordKind, is_recipe, kind_of, word_of};
@@ -95,7 +95,6 @@ pub fn content_of(word: u32) -> u32
 }
 
 // The function of a source word.
-// Kept: this and the one below read alike so far, but source and target words are laid out apart: request #105 gives a target word a mark.
 pub fn source_function(word: u32) -> u32
     ensures { result ≡ source_function word }
 {
@@ -106,5 +105,12 @@ pub fn source_function(word: u32) -> u32
 pub fn target_function(word: u32) -> u32
     ensures { result ≡ target_function word }
 {
-    content_of(word)
+    word & 0x1f
+}
+
+// Whether a target word is marked: its function comes negated.
+pub fn target_negated(word: u32) -> bool
+    ensures { result ≡ target_negated word }
+{
+    (word >> 5) & 1 == 1
 }
