@@ -36,7 +36,12 @@ pub const NEGATED_JOB: [u32; 13] = [
 ];
 
 // Its rules in the order of its sources.
-pub const NEGATED_RULES: [u32; 4] = [ADD_RULE, 0x5109_4A60, 0x54A1_4100, 0x5C89_440D];
+pub const NEGATED_RULES: [u32; 4] = [
+    NEGATED_JOB[9],
+    NEGATED_JOB[10],
+    NEGATED_JOB[11],
+    NEGATED_JOB[12],
+];
 
 // The set of its negated targets, by bits, the first target the lowest.
 pub const NEGATED: u32 = 0b110;

@@ -8,7 +8,7 @@ use bench_calls::files::{ADD_RULE, Made, NEGATED, NEGATED_JOB, NEGATED_RULES};
 use bench_calls::steps::Step;
 use bench_calls::{calls, lines};
 use testing::say;
-use testing::words::put;
+use testing::words::MARK;
 
 // The job's bench, and the same with plain targets; nothing is bound.
 const OPENED: Made = Marked(16, NEGATED, &[]);
@@ -113,8 +113,8 @@ fn show_finish(rt: &HostRuntime, bench: BenchWords) {
         b"    finish: OTHER WORDS\n",
     );
     let mut plain = NEGATED_JOB;
-    put(&mut plain, 7, 0x4000_0002);
-    put(&mut plain, 8, 0x4000_0008);
+    plain[7] ^= MARK;
+    plain[8] ^= MARK;
     let accepted = calls::is_accepted(bench, &NEGATED_JOB) & !calls::is_accepted(bench, &plain);
     lines::whether(
         rt,

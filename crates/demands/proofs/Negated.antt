@@ -2,16 +2,14 @@
 use mathlib.Core.Path.{◌≡◌, refl, sym, ap, subst, ◌∙◌}
 use mathlib.Core.Logic.{◌↔◌}
 use mathlib.Core.Bool.{Bool, true, false, not, ◌&&◌, ◌||◌, beq, false≢true}
-use mathlib.Core.List.{[], ◌∷◌}
-use Prim.Native.Nat.{ℕ, zero, suc, ◌+◌, ◌-◌, ◌*◌, ◌/◌, ◌^◌, ◌<◌}
+use Prim.Native.Nat.{ℕ, zero, suc, ◌-◌, ◌^◌, ◌<◌}
 use native.Mathlib.Omega.{arith}
-use native.Mathlib.Decide.{dec_lt}
 use lib.Dec.{eqb}
-use lib.ListN.{get_or}
 use borrow.Author.Tests.{eq-eqb, ne_eqb, eqb-true, eqb-false}
 use Rattle.std.specs.Prelude.{Option, Some, None}
+use Rattle.std.proofs.Math.Bool.{not-not}
 use Rattle.words.proofs.Choices.{and_join, beq-true, beq-refl}
-use Rattle.bits.specs.Bits.{top, bit, exor, word}
+use Rattle.bits.specs.Bits.{top, bit}
 use Rattle.bits.specs.Wiring.{complement, wired, carried}
 use Rattle.bits.specs.declared.Ports.{Ports}
 use Rattle.bits.proofs.Words.{word-bits, word-not, word-zeros, top-word}
@@ -21,18 +19,20 @@ use Rattle.words.proofs.Fields.{field_lt}
 use Rattle.recipe.specs.Fields.{SCRATCH, source_of, from_scratch, fields_of}
 use Rattle.recipe.specs.declared.Fields.{Fields}
 use Rattle.output.specs.Output.{shown_word, shown_bit, shown_comparison, outputs_show}
-use Rattle.output.specs.declared.Outputs.{Outputs}
 use Rattle.binding.specs.Binding.{plain, complemented, side_shows, from_target, recipe_of, shows}
-use Rattle.binding.specs.Right.{RightFor, Right, claim_against}
+use Rattle.binding.specs.Right.{RightFor, Right, claim_against, every}
 use Rattle.binding.specs.declared.Side.{Side}
-use Rattle.binding.specs.Right.{every}
 use Rattle.binding.proofs.Tests.{every-at, every-all}
 use Rattle.book.proofs.Closed.{both, at_both}
 use Rattle.demands.specs.Negated.{main_rewritten, compared_by, code_rewritten, rewritten}
 
-not-not : (b : Bool) → not (not b) ≡ b
-not-not true = refl
-not-not false = refl
+-- tests of equations that say the same
+eqb_iff : (a b a' b' : ℕ) → (a ≡ b → a' ≡ b') → (a' ≡ b' → a ≡ b) → eqb a' b' ≡ eqb a b
+eqb_iff a b a' b' to from = by (eqb a b) refl
+  where
+    by : (c : Bool) → eqb a b ≡ c → eqb a' b' ≡ c
+    by true e = eq-eqb a' b' (to (eqb-true a b e))
+    by false e = ne_eqb a' b' (λ h. eqb-false a b e (from h))
 
 -- the word 0 has no sign
 no_sign : (k a : ℕ) → not (not (eqb a 0)) && top (suc k) a ≡ false
@@ -61,18 +61,10 @@ module _ (k a : ℕ) (h : a < 2 ^ suc k) where
 
   -- it is 0 where the word is all ones, and all ones where the word is 0
   zero_of : eqb (complement (suc k) a) 0 ≡ eqb a (2 ^ suc k - 1)
-  zero_of = by (eqb a (2 ^ suc k - 1)) refl
-    where
-      by : (b : Bool) → eqb a (2 ^ suc k - 1) ≡ b → eqb (complement (suc k) a) 0 ≡ b
-      by true e = let z = eqb-true a (2 ^ suc k - 1) e in eq-eqb (complement (suc k) a) 0 (omega arith)
-      by false e = let z = eqb-false a (2 ^ suc k - 1) e in ne_eqb (complement (suc k) a) 0 (λ w. z (omega arith))
+  zero_of = eqb_iff a (2 ^ suc k - 1) (complement (suc k) a) 0 (λ e. omega arith) (λ e. omega arith)
 
   ones_of : eqb (complement (suc k) a) (2 ^ suc k - 1) ≡ eqb a 0
-  ones_of = by (eqb a 0) refl
-    where
-      by : (b : Bool) → eqb a 0 ≡ b → eqb (complement (suc k) a) (2 ^ suc k - 1) ≡ b
-      by true e = let z = eqb-true a 0 e in eq-eqb (complement (suc k) a) (2 ^ suc k - 1) (omega arith)
-      by false e = let z = eqb-false a 0 e in ne_eqb (complement (suc k) a) (2 ^ suc k - 1) (λ w. z (omega arith))
+  ones_of = eqb_iff a 0 (complement (suc k) a) (2 ^ suc k - 1) (λ e. omega arith) (λ e. omega arith)
 
   main_same : (code : ℕ) → shown_word (suc k) (main_rewritten code) (complement (suc k) a) ≡ shown_word (suc k) code a
   main_same zero = refl
