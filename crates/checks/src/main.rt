@@ -9,6 +9,7 @@ mod changes;
 mod compare;
 mod negated;
 mod random;
+mod show;
 
 use changes::{report_one_change, report_two_changes};
 use compare::{price_of, report};

@@ -1,9 +1,6 @@
-// Jobs and mappings of which it is known what the checker and the pricer say, with plain and with negated targets. Each line says what they
-// say, and where the second account says otherwise that it does.
-use crate::compare::{check_of, price_of};
-use reference::answer::Refusal;
+// Jobs and mappings of which it is known what the checker and the pricer say, with plain and with negated targets.
+use crate::show::show;
 use rulings::checking::Pair;
-use testing::say;
 use testing::words::{JOB, MAPPING, MARK};
 
 // A name for the job with the plain target, and one for that with the negated target; the job, its target last; and the mapping.
@@ -83,42 +80,6 @@ const PRINTED: [(&[u8], [u32; 2]); 4] = [
     (b"printed, SUB negated", [0x4000_0001, 0x4000_0022]),
     (b"printed, both negated", [0x4000_0021, 0x4000_0022]),
 ];
-
-// A refusal: its number and place, and of 10 that its operands show it.
-fn say_refusal(rt: &HostRuntime, refusal: Refusal) {
-    let _ = print!(rt; "refused {} {}", refusal.number, refusal.place);
-    if (refusal.number == 10) & refusal.shown {
-        say::text(rt, b", borne out");
-    }
-}
-
-fn say_checked(rt: &HostRuntime, told: Result<(), Refusal>) {
-    match told {
-        Ok(()) => say::text(rt, b"accepted"),
-        Err(refusal) => say_refusal(rt, refusal),
-    }
-}
-
-fn say_priced(rt: &HostRuntime, told: Result<u32, Refusal>) {
-    match told {
-        Ok(count) => {
-            let _ = print!(rt; "price {count}");
-        }
-        Err(refusal) => say_refusal(rt, refusal),
-    }
-}
-
-fn show(rt: &HostRuntime, name: &[u8], pair: &Pair) {
-    let checked = check_of(pair);
-    let priced = price_of(pair);
-    say::text(rt, name);
-    say::text(rt, b": ");
-    say_checked(rt, checked);
-    say::text(rt, b"; ");
-    say_priced(rt, priced);
-    let same = (checked == pair.check()) & (priced == pair.price());
-    say::text(rt, if same { b"\n" } else { b"; DIFFERS\n" });
-}
 
 // The target plain, and negated.
 fn show_known(rt: &HostRuntime, known: Known) {

@@ -1,40 +1,19 @@
 // The count of many sets of bindings, by the library and by the reference.
 #![tactic(auto)]
 
+mod compare;
 mod random;
 mod tables;
 
-use accounts::glue::{Costs, glue_count};
-use bits::Width;
+use accounts::glue::Costs;
+use compare::{agrees, price, try_grown};
 use random::{costs_from, word_from};
 use reference::trial::next;
 use tables::{ALL, SINGLE};
 use testing::say;
 use testing::tally::Tally;
-use testing::words::{at, first};
-use words::Prices;
 
 const SEED: u64 = 0x9e37_79b9_7f4a_7c15;
-
-// The library's count of what is in use, at widths from 1 to 64; at no others.
-fn price(usage: u64, costs: Costs) -> Option<u64> {
-    let n = (costs.n % 0x1_0000_0000) as u32;
-    if (n == 0) || (n > 64) {
-        return None;
-    }
-    let prices = Prices {
-        inverter: (costs.inverter % 256) as u8,
-        gate: (costs.gate % 256) as u8,
-        multiplexer: (costs.multiplexer % 256) as u8,
-    };
-    Some(tally::price(usage, Width { n }, prices) as u64)
-}
-
-// Whether the words have the same count at a width and prices made of x.
-fn agrees(words: &[u32], x: u64) -> bool {
-    let costs = costs_from(x);
-    price(usage::joined(words), costs) == Some(glue_count(words, costs))
-}
 
 // The same words at a thousand widths and prices.
 fn try_many(tally: &mut Tally, words: &[u32]) {
@@ -78,16 +57,6 @@ fn words_from(x: u64) -> [u32; 27] {
         y = next(y);
     }
     words
-}
-
-// Sets of none of the words and more, each made of the one before by joining one word's set.
-fn try_grown(tally: &mut Tally, words: &[u32], sets: usize, costs: Costs) {
-    let mut usage: u64 = 0;
-    for k in 0..sets {
-        let second = glue_count(first(words, k), costs);
-        tally.count(price(usage, costs) == Some(second));
-        usage |= usage::usage_of(at(words, k));
-    }
 }
 
 fn random_sets() -> Tally {
