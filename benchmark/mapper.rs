@@ -4,7 +4,7 @@ use crate::library::ASKS_BOOK;
 use crate::recipe::fields;
 use crate::yardstick::is_right;
 
-/// The codes in use at each port, a bit for each, and the union of the vectors. LO is code 3 of the main output.
+/// The codes in use at each port, a bit for each, the union of the vectors and what some vector lacks. LO is code 3 of the main output.
 #[derive(Clone, Copy, Default)]
 struct Usage {
     left: u32,
@@ -14,12 +14,13 @@ struct Usage {
     cout: u32,
     code: u32,
     vectors: u32,
+    lacking: u32,
 }
 
 fn usage(word: u32) -> Usage {
     let recipe = fields(word);
     if recipe.target == 0 {
-        return Usage { main: 1 << 3, vectors: recipe.code, ..Usage::default() };
+        return Usage { main: 1 << 3, vectors: recipe.code, lacking: 15 - recipe.code, ..Usage::default() };
     }
     // an output's code 0 is not in use
     let used = |code: u32| 1 << code & !1;
@@ -30,7 +31,7 @@ fn usage(word: u32) -> Usage {
         main: used(recipe.main),
         cout: used(recipe.cout),
         code: used(recipe.code),
-        vectors: 0,
+        ..Usage::default()
     }
 }
 
@@ -43,6 +44,7 @@ fn joined(p: Usage, q: Usage) -> Usage {
         cout: p.cout | q.cout,
         code: p.code | q.code,
         vectors: p.vectors | q.vectors,
+        lacking: p.lacking | q.lacking,
     }
 }
 
@@ -81,7 +83,9 @@ fn glue(used: Usage, c: &Costs) -> u32 {
         + if_used(used.carry, 1 << 3, c.a)
         + if_used(used.cout, 1 << 2, c.a);
     let codes: u32 = (1..16).map(|code| if_used(used.code, 1 << code, code_cost(code, c))).sum();
-    let gates = (3 * used.vectors.count_ones()).saturating_sub(1) * c.b;
+    let minterms = used.vectors.count_ones();
+    let common = (used.vectors & !used.lacking).count_ones();
+    let gates = (3 * minterms).saturating_sub(1 + common) * c.b;
     let scratch = gates + if_used(used.vectors, 0b1100, c.a) + if_used(used.vectors, 0b1010, c.a);
     c.n * (words + scratch) + bits + codes
 }

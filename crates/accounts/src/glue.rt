@@ -11,8 +11,11 @@ pub struct Costs {
     pub multiplexer: u64,
 }
 
+// The bit that stands in each vector besides its own four.
+const IN_EACH: u32 = 16;
+
 // The ports for which a binding with a target has codes; and the vector of a binding from scratch, which has a code if they share a
-// bit. Bit 4 stands in each vector.
+// bit.
 #[derive(Clone, Copy, PartialEq, Eq)]
 enum Port {
     Left,
@@ -31,7 +34,7 @@ fn has(word: u32, port: Port, code: u32) -> bool {
     }
     let fields = fields_of(word);
     if fields.target == 0 {
-        return (port == Port::Vector) & ((fields.code | 16) & code != 0);
+        return (port == Port::Vector) & ((fields.code | IN_EACH) & code != 0);
     }
     match port {
         Port::Left => fields.left == code,
@@ -109,7 +112,7 @@ impl Glue<'_> {
     fn multiplexers(&self) -> u64 {
         let left = self.distinct(Port::Left, 0, 6).saturating_sub(1);
         let right = self.distinct(Port::Right, 0, 6).saturating_sub(1);
-        let scratch = self.paid(Port::Vector, 16, 1);
+        let scratch = self.paid(Port::Vector, IN_EACH, 1);
         let main = self
             .distinct(Port::Main, 1, 3)
             .wrapping_add(scratch)
@@ -137,18 +140,25 @@ impl Glue<'_> {
         times(words, self.costs.n).wrapping_add(bits)
     }
 
-    // The gates of the minterms.
+    // Whether each binding from scratch has a minterm.
+    fn all_need(&self, minterm: u32) -> bool {
+        self.bindings.iter().all(|word| {
+            !has(*word, Port::Vector, IN_EACH) | has(*word, Port::Vector, minterm)
+        })
+    }
+
+    // The gates of a minterm at a place: its own, one to join it, and one to control it unless all need it.
+    fn gates_of(&self, minterm: u32) -> u64 {
+        self.paid(Port::Vector, minterm, more(2, !self.all_need(minterm)))
+    }
+
+    // The gates of the minterms, of which the first has none to join it to.
     fn gates(&self) -> u64 {
-        let high = self
-            .paid(Port::Vector, 8, 1)
-            .wrapping_add(self.paid(Port::Vector, 4, 1));
-        let low = self
-            .paid(Port::Vector, 2, 1)
-            .wrapping_add(self.paid(Port::Vector, 1, 1));
-        times(
-            times(3, high.wrapping_add(low)).saturating_sub(1),
-            self.costs.n,
-        )
+        let mut sum = 0u64;
+        for minterm in [1, 2, 4, 8] {
+            sum = sum.wrapping_add(self.gates_of(minterm));
+        }
+        times(sum.saturating_sub(1), self.costs.n)
     }
 
     fn count(&self) -> u64 {

@@ -5,8 +5,9 @@ use bench_calls::files::{ADD_RULE, Made, RULES};
 use bench_calls::{calls, lines};
 use testing::say;
 
-// Its own; one off; none; the largest; that of width 8 and of width 17; and its own with the highest bit set.
-const COUNTS: [u32; 8] = [148, 147, 149, 0, 0xFFFF_FFFF, 76, 157, 0x8000_0094];
+// Its own; one off; none; the largest; that of width 8 and of width 17; its own with the highest bit set; and document 01's older one, with
+// a control gate for each minterm.
+const COUNTS: [u32; 9] = [132, 131, 133, 0, 0xFFFF_FFFF, 68, 140, 0x8000_0084, 148];
 
 // What a call says, and whether the bench and the lent words are as they were.
 fn show_call(rt: &HostRuntime, name: &[u8], told: Told, bench: BenchWords) {

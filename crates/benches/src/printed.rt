@@ -13,15 +13,15 @@ use testing::words::JOB;
 const BINDS: [(Step, usize); 4] = [
     (Step::Bind(ADD_RULE), 0),
     (Step::Bind(RSUB_RULE), 64),
-    (Step::Bind(AND_RULE), 144),
-    (Step::Bind(LT_RULE), 148),
+    (Step::Bind(AND_RULE), 128),
+    (Step::Bind(LT_RULE), 132),
 ];
 
 // RSUB, LT, ADD and AND, and the counts after each is released.
 const RELEASES: [(Step, usize); 4] = [
-    (Step::Release(3), 84),
-    (Step::Release(25), 80),
-    (Step::Release(1), 32),
+    (Step::Release(3), 68),
+    (Step::Release(25), 64),
+    (Step::Release(1), 16),
     (Step::Release(8), 0),
 ];
 

@@ -63,7 +63,7 @@ const KNOWN: [Known; 10] = [
         b"AND from scratch beside AND",
         b"AND from scratch beside negated AND",
         [0x1000_0010, 0x2001_0103, 0x3000_0008, 0x4000_0008],
-        [0x1000_0010, 0x6400_0001, 0x7000_0020],
+        [0x1000_0010, 0x6400_0001, 0x7000_0010],
     ),
     (
         b"NAND as AND beside SUB",

@@ -12,7 +12,8 @@ use Rattle.words.proofs.Choices.{and_join, beq-true, beq-refl}
 use Rattle.bits.specs.Bits.{top, bit}
 use Rattle.bits.specs.Wiring.{complement, wired, carried}
 use Rattle.bits.specs.declared.Ports.{Ports}
-use Rattle.bits.proofs.Words.{word-bits, word-not, word-zeros, top-word}
+use Rattle.bits.proofs.Words.{word-zeros, top-word}
+use Rattle.usage.proofs.Bits.{not_bit}
 use Rattle.alu.specs.Function.{function_of, ports}
 use Rattle.alu.proofs.Shown.{ports_lt}
 use Rattle.words.proofs.Fields.{field_lt}
@@ -52,12 +53,8 @@ module _ (k a : ℕ) (h : a < 2 ^ suc k) where
 
   -- its top bit is complemented
   top_not : top (suc k) (complement (suc k) a) ≡ not (top (suc k) a)
-  top_not =
-      let e = word-bits (suc k) a h in
-      ap (λ (x : ℕ). top (suc k) (complement (suc k) x)) (sym e)
-      ∙ ap (top (suc k)) (sym (word-not (suc k) (bit a)))
-      ∙ top-word k (λ i. not (bit a i))
-      ∙ ap not (sym (top-word k (bit a)) ∙ ap (top (suc k)) e)
+  unfolding top
+  top_not = not_bit (suc k) a (suc k - 1) h (omega arith)
 
   -- it is 0 where the word is all ones, and all ones where the word is 0
   zero_of : eqb (complement (suc k) a) 0 ≡ eqb a (2 ^ suc k - 1)

@@ -78,6 +78,7 @@ pub fn check_inputs(rt: &HostRuntime) {
     check_mapping(rt, 24, Some((2, 0x618D4960))); // 8
     check_mapping(rt, 20, Some((4, 0x70000000))); // 9
     check_mapping(rt, 24, Some((4, 0x6C894407))); // 10
-    check_mapping(rt, 24, Some((5, 0x70000095))); // 11
+    check_mapping(rt, 24, Some((5, 0x70000085))); // 11
+    check_mapping(rt, 24, Some((5, 0x70000094))); // 11: document 01's count, a control gate for each minterm
     check_mapping(rt, 25, None); // cut short
 }

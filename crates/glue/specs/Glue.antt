@@ -20,11 +20,15 @@ has_code port k w = not (from_scratch w) && eqb (port (fields_of w)) k
 abbrev pub used_at : (Fields → ℕ) → List ℕ → ℕ → Bool
 used_at port ws k = some (has_code port k) ws
 
--- bit i of a scratch binding's vector
+-- a scratch binding whose vector has bit i, and one whose vector lacks it
 abbrev pub has_minterm : ℕ → ℕ → Bool
 has_minterm i w = from_scratch w && bit (vector_of w) i
 
--- what a set of bindings uses: of each port, whether a code is in use; LO; and which minterms are in the union of the vectors
+abbrev pub lacks_minterm : ℕ → ℕ → Bool
+lacks_minterm i w = from_scratch w && not (bit (vector_of w) i)
+
+-- what a set of bindings uses: of each port, whether a code is in use; LO; which minterms are in the union of the vectors; and which of
+-- these no vector lacks, "a minterm that all scratch functions of a mapping need" (request #106)
 pub record InUse : Type 0 where
   pub left : ℕ → Bool
   pub right : ℕ → Bool
@@ -34,6 +38,7 @@ pub record InUse : Type 0 where
   pub code : ℕ → Bool
   pub LO : Bool
   pub minterm : ℕ → Bool
+  pub common : ℕ → Bool
 
 abbrev pub in_use : List ℕ → InUse
 in_use ws =
@@ -46,6 +51,7 @@ in_use ws =
       code = used_at (λ r. r.code) ws;
       LO = some from_scratch ws;
       minterm = λ i. some (has_minterm i) ws;
+      common = λ i. some (has_minterm i) ws && not (some (lacks_minterm i) ws);
     }
 
 -- how many of the listed codes are in use
@@ -154,13 +160,20 @@ unfoldable pub comparison : ℕ → Prices → InUse → ℕ
 comparison n p u =
     steps (distinct u.code comparison_codes) * p.multiplexer + codes_count (code_price n p) u.code comparison_codes
 
--- "Scratch: with t minterms in the union of the vectors, t ≥ 1: n × (3t−1) × b (minterm, control gate, joining), plus n × a if
--- bit 3 or 2 is in the union, and n × a if bit 3 or 1 is."
+-- "(minterm, control gate, joining)" of t minterms in the union; and request #106: "The library vendors no longer gate a minterm that all
+-- scratch functions of a mapping need. With c such minterms the scratch gates are n × (3t−1−c) × b for t ≥ 1"
+abbrev pub gates : InUse → ℕ
+gates u =
+    let t = distinct u.minterm minterms in
+    let c = distinct u.common minterms in
+    3 * t - 1 - c
+
+-- "Scratch: with t minterms in the union of the vectors, t ≥ 1": these gates, "plus n × a if bit 3 or 2 is in the union, and n × a if
+-- bit 3 or 1 is."
 unfoldable pub scratch : ℕ → Prices → InUse → ℕ
 scratch n p u =
-    let t = distinct u.minterm minterms in
-    if leb 1 t
-    then n * (3 * t - 1) * p.gate
+    if leb 1 (distinct u.minterm minterms)
+    then n * gates u * p.gate
     + (if u.minterm 3 || u.minterm 2 then n * p.inverter else 0)
     + (if u.minterm 3 || u.minterm 1 then n * p.inverter else 0)
     else 0

@@ -1,14 +1,15 @@
 // The mapper tried on jobs whose mapping is known: the printed job, jobs that leave a function unmappable, equal glue, the largest
-// job, lent words of several lengths, these jobs with the book behind their rules, and jobs whose targets are negated. Each line says what
-// was answered and what the lent words then hold. Then how many rules of the book are right of plain and of negated targets, and the mapper
-// beside a second account of it on random jobs: a line for each shape of them says how many were compared, how many were mapped or refused,
-// and on how many the two differ; before it, where any do, stands the first.
+// job, lent words of several lengths, these jobs with the book behind their rules, jobs in which the minterms that all vectors have decide,
+// and jobs whose targets are negated. Each line says what was answered and what the lent words then hold. Then how many rules of the book
+// are right of plain and of negated targets, and the mapper beside a second account of it on random jobs: a line for each shape of them
+// says how many were compared, how many were mapped or refused, and on how many the two differ; before it, where any do, stands the first.
 #![tactic(auto)]
 
 mod book_rules;
 mod compare;
 mod jobs;
 mod marks;
+mod needed_by_all;
 mod negated;
 mod random;
 mod show;
@@ -19,6 +20,7 @@ use jobs::{
     BOOK_EQUAL_GLUE, BOOK_JOB, BOOK_NEITHER, BOOK_NO_RULE, BOOK_TARGET_MISSING, EQUAL_GLUE,
     EQUAL_GLUE_REVERSED, NEITHER, NO_RULE, PRINTED_RULE_ONLY, TARGET_MISSING,
 };
+use needed_by_all::report_needed_by_all;
 use negated::report_negated;
 use show::mapped;
 use testing::words::{first, put};
@@ -123,6 +125,7 @@ fn main(rt: HostRuntime) {
         0x10000081,
         56,
     );
+    report_needed_by_all(&rt);
     report_negated(&rt);
     report_book(&rt);
     report_random(&rt);

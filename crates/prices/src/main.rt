@@ -4,6 +4,7 @@
 mod compare;
 mod random;
 mod tables;
+mod vectors;
 
 use accounts::glue::Costs;
 use compare::{agrees, price, try_grown};
@@ -119,5 +120,6 @@ fn main(rt: HostRuntime) {
     say::report(&rt, b"two codes", pairs());
     say::report(&rt, b"all codes", at_many(&ALL));
     say::report(&rt, b"random sets", random_sets());
+    vectors::report(&rt);
     report_totals(&rt);
 }

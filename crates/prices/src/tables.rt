@@ -11,8 +11,9 @@ pub const SINGLE: [u32; 56] = [
     0x67000008, 0x67000009, 0x6700000a, 0x6700000b, 0x6700000c, 0x6700000d, 0x6700000e, 0x6700000f,
 ];
 
-// Every code in use.
-pub const ALL: [u32; 16] = [
+// Every code in use, and every minterm, of which the last vector has none.
+pub const ALL: [u32; 17] = [
     0x60849681, 0x60852942, 0x6085be83, 0x60864144, 0x6086d685, 0x60840946, 0x60849e87, 0x60852148,
     0x6085b689, 0x6086494a, 0x6086de8b, 0x6084014c, 0x6084968d, 0x6085294e, 0x6085be8f, 0x6380000f,
+    0x63000000,
 ];

@@ -46,7 +46,7 @@ fn push_job(words: &mut FileWords, sources: usize, targets: usize, rules: usize)
 
 fn push_mapping(words: &mut FileWords, bindings: usize) {
     push_entries(words, Kind::Binding, bindings);
-    words.push(0x7000_0094);
+    words.push(0x7000_0084);
 }
 
 pub fn plain(sizes: Sizes) -> FileWords {

@@ -1,19 +1,22 @@
 -- The count of the set that some bindings use is their glue count.
-use mathlib.Core.Path.{◌≡◌, sym, ap, ap₂, ◌∙◌}
-use mathlib.Core.Bool.{Bool, ◌||◌}
+use mathlib.Core.Path.{◌≡◌, refl, sym, ap, ap₂, ◌∙◌}
+use mathlib.Core.Bool.{Bool, false, not, ◌&&◌, ◌||◌}
 use mathlib.Core.List.{List, [], ◌∷◌, ◌++◌}
-use Prim.Native.Nat.{ℕ, ◌%◌, ◌^◌}
+use Prim.Native.Nat.{ℕ, ◌%◌, ◌^◌, ◌<◌}
 use native.Mathlib.Nat.{zero-div, zero-mod}
+use native.Mathlib.Decide.{dec_lt}
+use native.Mathlib.Omega.{arith}
 use lib.Bits.{bit_or}
 use Rattle.words.specs.Field.{field}
 use Rattle.words.specs.declared.Prices.{Prices}
 use Rattle.bits.specs.Bits.{bit}
 use Rattle.recipe.specs.Fields.{from_scratch}
 use Rattle.usage.specs.Sets.{usage_of, usage}
-use Rattle.usage.proofs.Bits.{or_bit, or_field, bit-zero}
-use Rattle.usage.proofs.Codes.{left_has, right_has, carry_has, main_has, cout_has, code_has, LO-has, minterm_has}
+use Rattle.words.proofs.Fields.{field_lt}
+use Rattle.usage.proofs.Bits.{or_bit, or_field, bit-zero, bit_past}
+use Rattle.usage.proofs.Codes.{left_has, right_has, carry_has, main_has, cout_has, code_has, LO-has, minterm_has, minterm_lacks}
 use Rattle.usage.proofs.Joining.{usage-more}
-use Rattle.glue.specs.Glue.{some, in_use, count_of, glue}
+use Rattle.glue.specs.Glue.{some, has_minterm, lacks_minterm, in_use, count_of, glue}
 use Rattle.tally.specs.Parts.{parts_of, used, set_count}
 
 -- ---- what the set says is in use is in use
@@ -29,6 +32,23 @@ in_some at size k test one (w ∷ ws) =
     ∙ or_bit (field (usage_of w) at size) (field (usage ws) at size) k
     ∙ ap₂ (λ (x y : Bool). x || y) (one w) (in_some at size k test one ws)
 
+minterms_used : (ws : List ℕ) (k : ℕ) → bit (field (usage ws) 45 4) k ≡ some (has_minterm k) ws
+minterms_used ws k = in_some 45 4 k (has_minterm k) (λ w. minterm_has w k) ws
+
+-- past the four minterms nothing is in use
+common_used : (ws : List ℕ) (k : ℕ) → bit (field (usage ws) 45 4) k && not (bit (field (usage ws) 49 4) k)
+    ≡ some (has_minterm k) ws && not (some (lacks_minterm k) ws)
+common_used ws k = elim (dec_lt k 4) [
+  | yes h ↦ λ i. minterms_used ws k i && not (in_some 49 4 k (lacks_minterm k) (λ w. minterm_lacks w k h) ws i)
+  | no h ↦ past h
+]
+  where
+    past : (k < 4 → ⊥) → bit (field (usage ws) 45 4) k && not (bit (field (usage ws) 49 4) k)
+        ≡ some (has_minterm k) ws && not (some (lacks_minterm k) ws)
+    past h =
+        let e : bit (field (usage ws) 45 4) k ≡ false = bit_past (field (usage ws) 45 4) 4 k (field_lt (usage ws) 45 4) (omega arith) in
+        rw (e, sym (minterms_used ws k) ∙ e) refl
+
 all_used : (ws : List ℕ) → used (parts_of (usage ws)) ≡ in_use ws
 all_used ws = λ i.
     record {
@@ -39,7 +59,8 @@ all_used ws = λ i.
       cout = λ k. in_some 24 4 k _ (λ w. cout_has w k) ws i;
       code = λ k. in_some 28 16 k _ (λ w. code_has w k) ws i;
       LO = in_some 44 1 0 from_scratch LO-has ws i;
-      minterm = λ k. in_some 45 4 k _ (λ w. minterm_has w k) ws i;
+      minterm = λ k. minterms_used ws k i;
+      common = λ k. common_used ws k i;
     }
 
 -- the count of the set is the glue count

@@ -1,13 +1,13 @@
 -- How the code counts a set: it takes the set apart, a port a part. Nobody has to believe this: Glue.antt of the crate glue says what the count is, and
 -- proofs/Joining.antt shows that the count of the set that some bindings use is that count.
-use Rattle.std.specs.Prelude.{ℕ}
+use Rattle.std.specs.Prelude.{ℕ, not, ◌&&◌}
 use Rattle.words.specs.Field.{field}
 use Rattle.words.specs.declared.Prices.{Prices}
 use Rattle.bits.specs.Bits.{bit}
 use Rattle.glue.specs.Glue.{InUse, count_of}
 use Rattle.tally.specs.declared.Parts.{Parts}
 
--- the bits of each port, of LO and of the minterms, as the crate usage keeps them
+-- the bits of each port, of LO, of the minterms that vectors have and of those that they lack, as the crate usage keeps them
 abbrev pub parts_of : ℕ → Parts
 parts_of s =
     record {
@@ -19,6 +19,7 @@ parts_of s =
       code = field s 28 16;
       scratch = field s 44 1;
       minterms = field s 45 4;
+      lacking = field s 49 4;
     }
 
 -- what the parts say is in use
@@ -33,6 +34,7 @@ used q =
       code = bit q.code;
       LO = bit q.scratch 0;
       minterm = bit q.minterms;
+      common = λ i. bit q.minterms i && not (bit q.lacking i);
     }
 
 -- the count of a set

@@ -1,4 +1,5 @@
-// The glue count of the bindings that use a set: document 01, "Glue count", line by line.
+// The glue count of the bindings that use a set: document 01, "Glue count", line by line, and the gates of the minterms as request #106 has
+// them.
 #![tactic(auto)]
 
 ghost use Rattle.std.specs.Prelude.{◌≡◌, ◌-◌, ◌*◌, ◌≤◌, ◌<◌};
@@ -11,7 +12,8 @@ use bits::Width;
 use glue::{amount, amount_each, codes_count, distinct, has, steps, when};
 use words::Prices;
 
-// A set of what is in use, taken apart: of each port a bit for each code, one for LO, and one for each minterm.
+// A set of what is in use, taken apart: of each port a bit for each code, one for LO, and of the minterms one for each that some vector
+// has, and one for each that some vector lacks.
 #[derive(Clone, Copy)]
 struct Parts {
     left: u64,
@@ -22,6 +24,7 @@ struct Parts {
     code: u64,
     scratch: u64,
     minterms: u64,
+    lacking: u64,
 }
 
 fn parts_of(usage: u64) -> Parts
@@ -36,6 +39,7 @@ fn parts_of(usage: u64) -> Parts
         code: (usage >> 28) & 0xffff,
         scratch: (usage >> 44) & 1,
         minterms: (usage >> 45) & 0xf,
+        lacking: (usage >> 49) & 0xf,
     }
 }
 
@@ -117,6 +121,16 @@ impl Glue {
             + codes_count(self.width, self.prices, self.parts.code)
     }
 
+    // The gates at a place of so many minterms: "minterm, control gate, joining". A minterm that no vector lacks has no control gate.
+    #[tactic(auto, using(crate::proofs::Gates::gates_are))]
+    fn gates(self, minterms: u32) -> u32
+        requires { (minterms ≡ G.distinct (B.bit self.parts.minterms) (C.codes 0 4)) × (1 ≤ minterms) × (minterms ≤ 4) }
+        ensures { (result ≡ G.gates (P.used self.parts)) × (result ≤ 11) }
+    {
+        let controlled = distinct(self.parts.minterms & self.parts.lacking, 0, 4);
+        minterms + controlled + (minterms - 1)
+    }
+
     // The gates of the minterms in use, and the complements that they read.
     #[tactic(auto, unfolding(glue::specs::Glue::scratch))]
     fn scratch(self) -> u32
@@ -128,7 +142,7 @@ impl Glue {
         }
         let inverters = amount(self.width.n, self.prices.inverter);
         let neither = has(self.parts.minterms, 3);
-        amount_each(self.width.n, 3 * minterms - 1, self.prices.gate)
+        amount_each(self.width.n, self.gates(minterms), self.prices.gate)
             + when(neither | has(self.parts.minterms, 2), inverters)
             + when(neither | has(self.parts.minterms, 1), inverters)
     }

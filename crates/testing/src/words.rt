@@ -1,4 +1,4 @@
-// The job and the mapping that document 01 prints, and how words are taken apart and put together.
+// The job and the mapping that document 01 prints, with request #106's count, and how words are taken apart and put together.
 use crate::kinds::Kind;
 
 pub const JOB: [u32; 14] = [
@@ -24,7 +24,7 @@ pub const MAPPING: [u32; 6] = [
     0x6185_C960,
     0x6400_0001,
     0x6C89_440C,
-    0x7000_0094,
+    0x7000_0084,
 ];
 
 // The vectors of the logic functions, from 6 on: document 01's Table 4, with LIMPL and RIMPL as in Table 2.

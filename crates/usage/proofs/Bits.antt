@@ -1,31 +1,52 @@
--- The bits of a joined set, and of the set of one bit.
+-- The bits of a joined set, of what two sets share, of a complement, and of the set of one bit.
 use mathlib.Core.Path.{◌≡◌, refl, sym, ap, ◌∙◌}
-use Prim.Native.Nat.{ℕ, zero, suc, ◌*◌, ◌/◌, ◌%◌, ◌^◌, ◌<◌}
-use native.Mathlib.Nat.{mod-lt, zero-lt-suc, zero-div, pow-suc, mul-div_cancel, one-mul}
+use Prim.Native.Nat.{ℕ, zero, suc, ◌-◌, ◌*◌, ◌/◌, ◌%◌, ◌^◌, ◌≤◌, ◌<◌}
+use native.Mathlib.Nat.{div-eq_of_lt, zero-lt-suc, zero-div, pow-suc, mul-div_cancel, one-mul}
 use native.Mathlib.Numerals.{one-add}
 use native.Mathlib.Omega.{arith}
-use mathlib.Core.Bool.{true, false, ◌||◌}
-use lib.Bits.{bit_or, or_shr, or_mod}
+use mathlib.Core.Bool.{Bool, true, false, not, ◌&&◌, ◌||◌}
+use lib.Bits.{bit_or, or_shr, or_mod, bit_and, and_shr, and_mod}
 use lib.Dec.{eqb, eqb-zero-suc, eqb-suc-zero, eqb-suc-suc}
-use lib.Pow.{shr-shr, shl_exact}
+use lib.Pow.{shr-shr, shl_exact, pow_mono}
 use Rattle.words.specs.Field.{field}
-use Rattle.bits.specs.Bits.{bit}
+use Rattle.bits.specs.Bits.{num, bit}
+use Rattle.bits.specs.Wiring.{complement}
+use Rattle.bits.proofs.Words.{num-bit, word-bits, word-not, bit_word}
+
+-- a bit of two numbers taken together digit by digit
+module _ (op : ℕ → ℕ → ℕ) (shr : (a b k : ℕ) → op a b / 2 ^ k ≡ op (a / 2 ^ k) (b / 2 ^ k))
+    (rest : (a b k : ℕ) → op a b % 2 ^ k ≡ op (a % 2 ^ k) (b % 2 ^ k)) where
+  bit_by : (by : Bool → Bool → Bool) → ((x y : Bool) → eqb (op (num x) (num y)) 1 ≡ by x y) → (a b k : ℕ)
+      → bit (op a b) k ≡ by (bit a k) (bit b k)
+  unfolding bit
+  bit_by by digits a b k =
+      ap (λ (x : ℕ). eqb (x % 2) 1) (shr a b k)
+      ∙ ap (λ (x : ℕ). eqb x 1) (rest (a / 2 ^ k) (b / 2 ^ k) 1)
+      ∙ (λ i. eqb (op (sym (num-bit a k) i) (sym (num-bit b k) i)) 1)
+      ∙ digits (bit a k) (bit b k)
 
 pub or_bit : (a b k : ℕ) → bit (bit_or a b) k ≡ bit a k || bit b k
-unfolding bit
-or_bit a b k =
-    ap (λ (x : ℕ). eqb (x % 2) 1) (or_shr a b k)
-    ∙ ap (λ (x : ℕ). eqb x 1) (or_mod (a / 2 ^ k) (b / 2 ^ k) 1)
-    ∙ digits (a / 2 ^ k % 2) (b / 2 ^ k % 2) (mod-lt (a / 2 ^ k) (zero-lt-suc 1)) (mod-lt (b / 2 ^ k) (zero-lt-suc 1))
+or_bit = bit_by bit_or or_shr or_mod (λ x y. x || y) digits
   where
-    digits : (x y : ℕ) → x < 2 → y < 2 → eqb (bit_or x y) 1 ≡ eqb x 1 || eqb y 1
-    digits zero zero h g = refl
-    digits zero (suc zero) h g = refl
-    digits zero (suc (suc y)) h g = absurd (omega arith)
-    digits (suc zero) zero h g = refl
-    digits (suc zero) (suc zero) h g = refl
-    digits (suc zero) (suc (suc y)) h g = absurd (omega arith)
-    digits (suc (suc x)) y h g = absurd (omega arith)
+    digits : (x y : Bool) → eqb (bit_or (num x) (num y)) 1 ≡ x || y
+    digits true true = refl
+    digits true false = refl
+    digits false true = refl
+    digits false false = refl
+
+pub and_bit : (a b k : ℕ) → bit (bit_and a b) k ≡ bit a k && bit b k
+and_bit = bit_by bit_and and_shr and_mod (λ x y. x && y) digits
+  where
+    digits : (x y : Bool) → eqb (bit_and (num x) (num y)) 1 ≡ x && y
+    digits true true = refl
+    digits true false = refl
+    digits false y = refl
+
+pub not_bit : (n a k : ℕ) → a < 2 ^ n → k < n → bit (complement n a) k ≡ not (bit a k)
+not_bit n a k h l =
+    ap (λ (x : ℕ). bit (2 ^ n - 1 - x) k) (sym (word-bits n a h))
+    ∙ ap (λ (x : ℕ). bit x k) (sym (word-not n (bit a)))
+    ∙ bit_word n (λ i. not (bit a i)) k l
 
 pub or_field : (a b at size : ℕ) → field (bit_or a b) at size ≡ bit_or (field a at size) (field b at size)
 or_field a b at size = ap (λ (x : ℕ). x % 2 ^ size) (or_shr a b at) ∙ or_mod (a / 2 ^ at) (b / 2 ^ at) size
@@ -33,6 +54,10 @@ or_field a b at size = ap (λ (x : ℕ). x % 2 ^ size) (or_shr a b at) ∙ or_mo
 pub bit-zero : (k : ℕ) → bit 0 k ≡ false
 unfolding bit
 bit-zero k = ap (λ (x : ℕ). eqb (x % 2) 1) (zero-div (2 ^ k))
+
+pub bit_past : (a n k : ℕ) → a < 2 ^ n → n ≤ k → bit a k ≡ false
+unfolding bit
+bit_past a n k h l = let p : 2 ^ n ≤ 2 ^ k = pow_mono l in ap (λ (x : ℕ). eqb (x % 2) 1) (div-eq_of_lt (omega arith))
 
 -- the next bit is the half's bit
 bit-half : (a k : ℕ) → bit a (suc k) ≡ bit (a / 2) k

@@ -1,6 +1,6 @@
 -- The parts of one binding's set, a port a part: what a binding has at a port is what its set has in the port's part.
 use mathlib.Core.Path.{◌≡◌, refl, sym, ap, ◌∙◌}
-use Prim.Native.Nat.{ℕ, ◌+◌, ◌*◌, ◌%◌, ◌^◌, ◌<◌}
+use Prim.Native.Nat.{ℕ, ◌+◌, ◌-◌, ◌*◌, ◌%◌, ◌^◌, ◌<◌}
 use native.Mathlib.Omega.{arith}
 use mathlib.Core.Bool.{Bool, true, false, not, ◌&&◌}
 use lib.Bits.{bit_or}
@@ -10,10 +10,11 @@ use Rattle.std.specs.Prelude.{if◌then◌else◌}
 use Rattle.words.specs.Field.{field}
 use Rattle.words.proofs.Fields.{field_lt, onto}
 use Rattle.bits.specs.Bits.{bit}
+use Rattle.bits.specs.Wiring.{complement}
 use Rattle.recipe.specs.Fields.{from_scratch, vector_of, fields_of}
 use Rattle.recipe.specs.declared.Fields.{Fields}
 use Rattle.usage.specs.Sets.{code_bit, target_usage, scratch_usage, usage_of}
-use Rattle.usage.proofs.Bits.{bit-zero, pow_bit}
+use Rattle.usage.proofs.Bits.{bit-zero, not_bit, pow_bit}
 
 -- parts laid side by side
 abbrev laid : ℕ → ℕ → ℕ → ℕ → ℕ → ℕ → ℕ
@@ -52,6 +53,9 @@ module _ (l r k m o c : ℕ) (fit : Fit l r k m o c) where
 
   no_minterms : field (laid l r k m o c) 45 4 ≡ 0
   no_minterms = omega arith
+
+  none_lacking : field (laid l r k m o c) 49 4 ≡ 0
+  none_lacking = omega arith
 
   -- joined one after the other, they add up
   side_by_side : bit_or (bit_or (bit_or (bit_or (bit_or (2 ^ 28 * c) (2 ^ 24 * o)) (2 ^ 20 * m)) (2 ^ 16 * k)) (2 ^ 8 * r)) (2 ^ 0 * l)
@@ -117,23 +121,36 @@ module _ (w : ℕ) where
   unfolding scratch_usage
   code_has = coded 28 16 (field w 0 4) (omega arith) (code_part _ _ _ _ _ _ target_fit)
 
+  -- only a binding from scratch has LO, and has and lacks minterms
+  module _ (at size x : ℕ) (s : field (scratch_usage (vector_of w)) at size ≡ x) (t : field target_laid at size ≡ 0) where
+    vectored : (k : ℕ) → bit (field (usage_of w) at size) k ≡ from_scratch w && bit x k
+    unfolding usage_of
+    vectored k = go (from_scratch w)
+      where
+        go : (b : Bool) → bit (field (if b then scratch_usage (vector_of w) else target_usage (fields_of w)) at size) k ≡ b && bit x k
+        go true = ap (λ (y : ℕ). bit y k) s
+        go false = ap (λ (y : ℕ). bit (field y at size) k) target_parts ∙ ap (λ (y : ℕ). bit y k) t ∙ bit-zero k
+
   pub LO-has : bit (field (usage_of w) 44 1) 0 ≡ from_scratch w
-  unfolding usage_of scratch_usage
-  LO-has = go (from_scratch w)
+  unfolding scratch_usage
+  LO-has =
+      vectored 44 1 1 (omega arith) (no_LO _ _ _ _ _ _ target_fit) 0
+      ∙ ap (λ (b : Bool). from_scratch w && b) (pow_bit 0 0)
+      ∙ and_true (from_scratch w)
     where
-      go : (b : Bool) → bit (field (if b then scratch_usage (vector_of w) else target_usage (fields_of w)) 44 1) 0 ≡ b
-      go true = let e : field (scratch_usage (vector_of w)) 44 1 ≡ 1 = omega arith in ap (λ (y : ℕ). bit y 0) e ∙ pow_bit 0 0
-      go false =
-          ap (λ (y : ℕ). bit (field y 44 1) 0) target_parts ∙ ap (λ (y : ℕ). bit y 0) (no_LO _ _ _ _ _ _ target_fit) ∙ bit-zero 0
+      and_true : (b : Bool) → b && true ≡ b
+      and_true true = refl
+      and_true false = refl
 
   pub minterm_has : (k : ℕ) → bit (field (usage_of w) 45 4) k ≡ from_scratch w && bit (vector_of w) k
-  unfolding usage_of scratch_usage
-  minterm_has k = go (from_scratch w)
-    where
-      go : (b : Bool) → bit (field (if b then scratch_usage (vector_of w) else target_usage (fields_of w)) 45 4) k ≡ b && bit (vector_of w) k
-      go true = let e : field (scratch_usage (vector_of w)) 45 4 ≡ vector_of w = omega arith in ap (λ (y : ℕ). bit y k) e
-      go false =
-          ap (λ (y : ℕ). bit (field y 45 4) k) target_parts ∙ ap (λ (y : ℕ). bit y k) (no_minterms _ _ _ _ _ _ target_fit) ∙ bit-zero k
+  unfolding scratch_usage
+  minterm_has = vectored 45 4 (vector_of w) (omega arith) (no_minterms _ _ _ _ _ _ target_fit)
+
+  pub minterm_lacks : (k : ℕ) → k < 4 → bit (field (usage_of w) 49 4) k ≡ from_scratch w && not (bit (vector_of w) k)
+  unfolding scratch_usage
+  minterm_lacks k h =
+      vectored 49 4 (complement 4 (vector_of w)) (omega arith) (none_lacking _ _ _ _ _ _ target_fit) k
+      ∙ ap (λ (b : Bool). from_scratch w && b) (not_bit 4 (vector_of w) k (field_lt w 0 4) h)
 
 -- ---- how the code comes to a binding's set
 
@@ -153,11 +170,15 @@ module _ (r : Fields) (w : ℕ) (e : r ≡ fields_of w) where
       ∙ side_by_side _ _ _ _ _ _ (target_fit w)
       ∙ sym (target_parts w)
 
-pub joined_minterms : (w v p : ℕ) → v ≡ vector_of w → p ≡ code_bit 44 0 → bit_or (v * 2 ^ 45 % 2 ^ 64) p ≡ scratch_usage (vector_of w)
+pub joined_minterms : (w v p : ℕ) → v ≡ vector_of w → p ≡ code_bit 44 0
+    → bit_or (bit_or ((15 - v) * 2 ^ 49 % 2 ^ 64) (v * 2 ^ 45 % 2 ^ 64)) p ≡ scratch_usage (vector_of w)
 unfolding scratch_usage
 joined_minterms w v p ev ep =
     let h : v < 16 = rw ev (field_lt w 0 4) in
-    let s : v * 2 ^ 45 % 2 ^ 64 ≡ v * 2 ^ 45 = omega arith in
-    ap (bit_or (v * 2 ^ 45 % 2 ^ 64)) ep
-    ∙ onto 45 (code_bit 44 0) s (omega arith) (omega arith)
-    ∙ ap (λ (x : ℕ). x * 2 ^ 45 + code_bit 44 0) ev
+    let l : (15 - v) * 2 ^ 49 % 2 ^ 64 ≡ (15 - v) * 2 ^ 49 = omega arith in
+    let m : v * 2 ^ 45 % 2 ^ 64 ≡ v * 2 ^ 45 = omega arith in
+    let both : bit_or ((15 - v) * 2 ^ 49 % 2 ^ 64) (v * 2 ^ 45) ≡ (15 - v) * 2 ^ 49 + v * 2 ^ 45 =
+    onto 49 (v * 2 ^ 45) l (omega arith) (omega arith) in
+    (λ i. bit_or (bit_or ((15 - v) * 2 ^ 49 % 2 ^ 64) (m i)) (ep i))
+    ∙ onto 45 (code_bit 44 0) both (omega arith) (omega arith)
+    ∙ ap (λ (x : ℕ). complement 4 x * 2 ^ 49 + x * 2 ^ 45 + code_bit 44 0) ev

@@ -1,5 +1,5 @@
-// What bindings use, kept as one set of bits: a bit for each value of each field, one for LO, and one for each minterm. Two sets are
-// joined by `|`, so a set knows neither the order of the bindings nor how often one stands.
+// What bindings use, kept as one set of bits: a bit for each value of each field, one for LO, and two for each minterm, since a vector has
+// it or lacks it. Two sets are joined by `|`, so a set knows neither the order of the bindings nor how often one stands.
 #![tactic(auto)]
 
 ghost use Rattle.std.specs.Prelude.{◌≡◌, ◌+◌, ◌<◌};
@@ -28,12 +28,13 @@ fn target_usage(word: u32) -> u64
         | code_bit(0, fields.left)
 }
 
-// LO and the minterms of a binding from scratch.
+// LO, the minterms of a binding from scratch and those that it lacks.
 #[tactic(auto, using(crate::proofs::Codes::joined_minterms))]
 fn scratch_usage(word: u32) -> u64
     ensures { result ≡ S.scratch_usage (F.vector_of word) }
 {
-    ((recipe::vector_of(word) as u64) << 45) | code_bit(44, 0)
+    let vector = recipe::vector_of(word);
+    (((15 - vector) as u64) << 49) | ((vector as u64) << 45) | code_bit(44, 0)
 }
 
 // What one binding uses.
