@@ -48,10 +48,7 @@ const KNOWN: [Known; 5] = [
 
 // The mapping with another count.
 fn with_count(mapping: &[u32], count: u64) -> Words<6> {
-    let mut words = Words::empty();
-    for word in mapping {
-        words.push(*word);
-    }
+    let mut words = Words::of(mapping);
     words.put(mapping.len().wrapping_sub(1), glue_word(count));
     words
 }

@@ -1,7 +1,6 @@
 // Jobs in which the minterms that all vectors have decide between a rule from scratch and one from a target (request #106): at the first
 // prices the target's is taken, at the second, which differ by 1, the one from scratch.
-use crate::show::mapped;
-use testing::words::Words;
+use crate::show::mapped_with;
 
 // Names for the two prices; the prices; and the job, whose second word is to be the prices.
 struct Known {
@@ -57,19 +56,10 @@ const KNOWN: [Known; 4] = [
     },
 ];
 
-fn with_prices(rt: &HostRuntime, name: &[u8], job: &[u32], prices: u32) {
-    let mut words: Words<8> = Words::empty();
-    for word in job {
-        words.push(*word);
-    }
-    words.put(1, prices);
-    mapped(rt, name, words.written(), 4);
-}
-
 pub fn report_needed_by_all(rt: &HostRuntime) {
     for known in &KNOWN {
         for (name, prices) in known.names.iter().zip(known.prices) {
-            with_prices(rt, name, known.job, prices);
+            mapped_with(rt, name, known.job, (1, prices), 4);
         }
     }
 }

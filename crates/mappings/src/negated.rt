@@ -1,8 +1,8 @@
 // Jobs whose mapping is known, with a plain target and with the negated one.
 use crate::jobs::largest;
-use crate::show::mapped;
+use crate::show::{mapped, mapped_with};
 use rulings::known::for_negated;
-use testing::words::{JOB, MARK, Words, at, first};
+use testing::words::{JOB, MARK, at, first};
 
 // The place of the only target of the jobs below.
 const TARGET: usize = 3;
@@ -148,12 +148,7 @@ const PRINTED: [Printed; 8] = [
 fn with_pair(rt: &HostRuntime, pair: Pair) {
     let (plain, negated, job) = pair;
     mapped(rt, plain, job, 3);
-    let mut words: Words<8> = Words::empty();
-    for word in job {
-        words.push(*word);
-    }
-    words.put(TARGET, at(job, TARGET) | MARK);
-    mapped(rt, negated, words.written(), 3);
+    mapped_with(rt, negated, job, (TARGET, at(job, TARGET) | MARK), 3);
 }
 
 fn with_printed(rt: &HostRuntime, row: Printed) {

@@ -1,6 +1,6 @@
 // What the mapper answers, and the lent words afterwards.
 use testing::say;
-use testing::words::LENT;
+use testing::words::{LENT, Words};
 use words::Refusal;
 
 // Eight capital hexadecimal digits, or that the word was not touched.
@@ -43,4 +43,12 @@ fn mapped_into(rt: &HostRuntime, name: &[u8], job: &[u32], lent: &mut [u32]) {
 pub fn mapped(rt: &HostRuntime, name: &[u8], job: &[u32], lent: usize) {
     let mut words = [LENT; 32];
     mapped_into(rt, name, job, &mut words[..lent.min(32)]);
+}
+
+// The same of a job, of 8 words at most, with another word at an index.
+pub fn mapped_with(rt: &HostRuntime, name: &[u8], job: &[u32], changed: (usize, u32), lent: usize) {
+    let (i, word) = changed;
+    let mut words: Words<8> = Words::of(job);
+    words.put(i, word);
+    mapped(rt, name, words.written(), lent);
 }

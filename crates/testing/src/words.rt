@@ -87,6 +87,15 @@ impl<const ROOM: usize> Words<ROOM> {
         }
     }
 
+    // These words, or the first ROOM of them.
+    pub fn of(words: &[u32]) -> Words<ROOM> {
+        let mut copied = Words::empty();
+        for word in words {
+            copied.push(*word);
+        }
+        copied
+    }
+
     pub fn written(&self) -> &[u32] {
         first(&self.words, self.size)
     }
