@@ -57,87 +57,88 @@ pub fn is_width(n: u32) -> bool
     (1..=WIDEST).contains(&n)
 }
 
+const FUNCTION_KINDS: [Kind; 28] = [
+    Kind::Logic(0),
+    Kind::Arithmetic {
+        left: I0,
+        right: I1,
+        carry: ICIN,
+    },
+    Kind::Arithmetic {
+        left: I0,
+        right: NOT_I1,
+        carry: ICIN,
+    },
+    Kind::Arithmetic {
+        left: NOT_I0,
+        right: I1,
+        carry: ICIN,
+    },
+    Kind::Arithmetic {
+        left: I0,
+        right: ZEROS,
+        carry: CARRY_ONE,
+    },
+    Kind::Arithmetic {
+        left: I0,
+        right: ONES,
+        carry: CARRY_ZERO,
+    },
+    Kind::Logic(0b0000),
+    Kind::Logic(0b1111),
+    Kind::Logic(0b0001),
+    Kind::Logic(0b1110),
+    Kind::Logic(0b0111),
+    Kind::Logic(0b1000),
+    Kind::Logic(0b0110),
+    Kind::Logic(0b1001),
+    Kind::Logic(0b0011),
+    Kind::Logic(0b0101),
+    Kind::Logic(0b1100),
+    Kind::Logic(0b1010),
+    Kind::Logic(0b0100),
+    Kind::Logic(0b0010),
+    Kind::Logic(0b1101),
+    Kind::Logic(0b1011),
+    Kind::Comparison {
+        less: false,
+        equal: true,
+        greater: false,
+    },
+    Kind::Comparison {
+        less: true,
+        equal: false,
+        greater: true,
+    },
+    Kind::Comparison {
+        less: false,
+        equal: false,
+        greater: true,
+    },
+    Kind::Comparison {
+        less: true,
+        equal: false,
+        greater: false,
+    },
+    Kind::Comparison {
+        less: false,
+        equal: true,
+        greater: true,
+    },
+    Kind::Comparison {
+        less: true,
+        equal: true,
+        greater: false,
+    },
+];
+
 // The kind of a function, by its number. LIMPL and RIMPL are those of Table 2.
 // Kept: a function is its number wherever words and the C interface hold one, and this table is where it is read. An enum of 27 would be
 // made from the number and turned back at each word.
 pub fn function_of(number: u32) -> Kind
     ensures { result ≡ F.function_of number }
 {
-    let functions = [
-        Kind::Logic(0),
-        Kind::Arithmetic {
-            left: I0,
-            right: I1,
-            carry: ICIN,
-        },
-        Kind::Arithmetic {
-            left: I0,
-            right: NOT_I1,
-            carry: ICIN,
-        },
-        Kind::Arithmetic {
-            left: NOT_I0,
-            right: I1,
-            carry: ICIN,
-        },
-        Kind::Arithmetic {
-            left: I0,
-            right: ZEROS,
-            carry: CARRY_ONE,
-        },
-        Kind::Arithmetic {
-            left: I0,
-            right: ONES,
-            carry: CARRY_ZERO,
-        },
-        Kind::Logic(0b0000),
-        Kind::Logic(0b1111),
-        Kind::Logic(0b0001),
-        Kind::Logic(0b1110),
-        Kind::Logic(0b0111),
-        Kind::Logic(0b1000),
-        Kind::Logic(0b0110),
-        Kind::Logic(0b1001),
-        Kind::Logic(0b0011),
-        Kind::Logic(0b0101),
-        Kind::Logic(0b1100),
-        Kind::Logic(0b1010),
-        Kind::Logic(0b0100),
-        Kind::Logic(0b0010),
-        Kind::Logic(0b1101),
-        Kind::Logic(0b1011),
-        Kind::Comparison {
-            less: false,
-            equal: true,
-            greater: false,
-        },
-        Kind::Comparison {
-            less: true,
-            equal: false,
-            greater: true,
-        },
-        Kind::Comparison {
-            less: false,
-            equal: false,
-            greater: true,
-        },
-        Kind::Comparison {
-            less: true,
-            equal: false,
-            greater: false,
-        },
-        Kind::Comparison {
-            less: false,
-            equal: true,
-            greater: true,
-        },
-        Kind::Comparison {
-            less: true,
-            equal: true,
-            greater: false,
-        },
-    ];
-    functions
+    FUNCTION_KINDS
         .get(number as usize)
         .copied()
         .unwrap_or(Kind::Logic(0))
