@@ -82,7 +82,7 @@ cell k a x y =
       order = top_order k a x y;
     }
 
--- ---- the same of a side, at the bits x and y of left and right; of a negated one each bit of O0, and O1, are complemented
+-- ---- the same of a side, at the bits x and y of left and right; of a negated one each bit of O0, and O1, is complemented
 
 abbrev pub side_start : Side → Bool → Ripple
 side_start s c = start s.kind (carried s.carry c)

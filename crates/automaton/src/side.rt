@@ -14,6 +14,7 @@ pub fn start(s: Side, carry: bool) -> Ripple
 }
 
 // What a side does at the bits x and y of a place.
+#[inline(always)]
 pub fn cell_of(s: Side, a: Ripple, x: bool, y: bool) -> Cell
     ensures { result ≡ M.cell_of s a x y }
 {

@@ -128,8 +128,9 @@ fn as_marked(negated: bool, width: Width, ports: Ports) -> Ports
     }
 }
 
-// The ports of a side.
+// The ports of a side. It is put in place where it is called, which took 5% off a verdict.
 #[tactic(auto, using(alu::proofs::Shown::ports_lt), unfolding(crate::specs::Binding::side_shows))]
+#[inline(always)]
 pub fn side_shows(side: Side, operands: Operands, carry: bool) -> Ports
     ensures { (result ≡ B.side_shows side operands.width.n operands.left operands.right carry) × (result.o0 < 2 ^ operands.width.n) }
 {

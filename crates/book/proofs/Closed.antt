@@ -15,7 +15,7 @@ use Rattle.binding.proofs.Tests.{every-at}
 use Rattle.automaton.specs.Machine.{first, next, alike, last, low_bit, agrees_from}
 use Rattle.automaton.specs.declared.State.{State}
 use Rattle.automaton.proofs.Runs.{decided}
-use Rattle.equivalence.specs.Sets.{index_of, state_of}
+use Rattle.equivalence.specs.States.{index_of, state_of}
 use Rattle.equivalence.proofs.States.{index_lt, state_index}
 
 -- ---- the test

@@ -1,5 +1,9 @@
-pub mod Made
+pub mod Filled
+pub mod Words
+pub mod Memories
 pub mod States
+pub mod Orders
 pub mod Places
 pub mod Sets
+pub mod Runs
 pub mod Walks

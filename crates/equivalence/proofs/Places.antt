@@ -1,106 +1,160 @@
--- The tables of what happens at one place: filled from their start, and read by state and pair of bits.
-use mathlib.Core.Path.{◌≡◌, ap, ◌∙◌}
-use Prim.Native.Nat.{ℕ, ◌+◌, ◌*◌, ◌/◌, ◌%◌, ◌≤◌, ◌<◌}
+-- One place: which of the four states that share what both sides remember fail there, or lead to states that fail.
+use mathlib.Core.Path.{◌≡◌, refl, sym, ap, ap₂, ◌∙◌}
+use Prim.Native.Nat.{ℕ, ◌+◌, ◌*◌, ◌/◌, ◌%◌, ◌^◌, ◌<◌}
 use native.Mathlib.Omega.{arith}
-use native.Mathlib.Decide.{dec_lt}
-use mathlib.Core.Bool.{Bool, true, false}
-use mathlib.Core.List.{List}
+use mathlib.Core.Bool.{Bool, true, false, not, ◌&&◌, ◌||◌, beq}
 use lib.Dec.{eqb}
-use lib.ListN.{get_or, length, set}
-use lib.Seq.{get_or-set_same, get_or-set_other}
-use Rattle.binding.specs.declared.Side.{Side}
+use lib.Bits.{bit_or, or_lt, bit_xor, xor_lt}
+use lib.Pow.{shr-shr}
+use borrow.Author.Tests.{eqb-true}
+use Rattle.std.specs.Prelude.{Option, Some, None}
+use Rattle.bits.specs.Bits.{num, bit, exor, word}
+use Rattle.bits.proofs.Words.{word_lt, word_mod, word-ext, word-zeros, word_ones, bit_word}
+use Rattle.output.specs.Output.{shown_bit, shown_comparison}
 use Rattle.output.specs.declared.Outputs.{Outputs}
+use Rattle.binding.specs.Right.{every}
+use Rattle.binding.specs.declared.Side.{Side}
 use Rattle.binding.specs.declared.Recipe.{Recipe}
-use Rattle.automaton.specs.Machine.{cell_of}
+use Rattle.binding.proofs.Tests.{every-at}
+use Rattle.automaton.specs.Machine.{cell_of, next_by, alike_by, low_bit}
 use Rattle.automaton.specs.declared.Cell.{Cell}
-use Rattle.automaton.specs.declared.State.{State}
-use Rattle.equivalence.specs.Sets.{state_of, cell_at, no_cell, Cells, move_by, top_by, slot, Table, Tabled}
+use Rattle.equivalence.specs.Shown.{high, memory, ripple_of, group_of, orders, shown_of, whole}
+use Rattle.equivalence.specs.States.{index_of, shown_at}
+use Rattle.equivalence.specs.Sets.{fails_by, after, pulled, group_by, group_by_pair}
+use Rattle.equivalence.specs.declared.shown.Shown.{Shown}
+use Rattle.equivalence.proofs.States.{low_of, high_of}
+use Rattle.equivalence.proofs.Words.{or_word, xor_word}
 
-pub filled : {A : Type 0} (d : A) (F : ℕ → A) (l : List A) (i : ℕ) (e : A) → i < length l → e ≡ F i
-    → ((k : ℕ) → k < i → get_or l k d ≡ F k) → (k : ℕ) → k < i + 1 → get_or (set l i e) k d ≡ F k
-filled d F l i e h u below k b =
-    elim (dec_lt k i) [
-      | yes v ↦ get_or-set_other l i k e d (λ w. omega arith) ∙ below k v
-      | no v ↦ let w : k ≡ i = omega arith in rw w (get_or-set_same l i e d h ∙ u)
-    ]
+-- ---- the two maps
 
-is_one : (a b : ℕ) → a ≡ b → eqb a 1 ≡ eqb b 1
-is_one a b e = ap (λ (z : ℕ). eqb z 1) e
+-- a group after a bit, as a table of sixteen
+pulls : Bool → (ℕ → ℕ) → ℕ → Bool
+pulls b f group = eqb (f group) (pulled b group)
 
-low_of_two : (a : ℕ) → a % 4 % 2 ≡ a % 2
-low_of_two a = omega arith
+pub pulled_by_one : (group : ℕ) → group < 16 → group / 2 % 2 * 3 + group / 8 * 12 ≡ pulled true group
+unfolding pulls every pulled word bit
+pulled_by_one group h = eqb-true _ _ (every-at 16 (pulls true (λ g. g / 2 % 2 * 3 + g / 8 * 12)) refl group h)
 
-high_of_two : (a : ℕ) → a % 4 / 2 % 2 ≡ a / 2 % 2
-high_of_two a = omega arith
+pub pulled_by_zero : (group : ℕ) → group < 16 → group % 4 * 5 ≡ pulled false group
+unfolding pulls every pulled word bit
+pulled_by_zero group h = eqb-true _ _ (every-at 16 (pulls false (λ g. g % 4 * 5)) refl group h)
 
--- ---- place m of a table: the state m / 4, and the bits in m % 4
+joins : Bool → ℕ → Bool
+joins b k = eqb (num (low_bit k || b) + 2 * num (high k && b)) (after b k)
 
-abbrev pub entry_at : (State → Bool → Bool → ℕ) → ℕ → ℕ
-entry_at f m = f (state_of (m / 4)) (eqb (m / 2 % 2) 1) (eqb (m % 2) 1)
+joined : (b : Bool) (k : ℕ) → k < 4 → num (low_bit k || b) + 2 * num (high k && b) ≡ after b k
+unfolding joins every
+joined true k h = eqb-true _ _ (every-at 4 (joins true) refl k h)
+joined false k h = eqb-true _ _ (every-at 4 (joins false) refl k h)
 
--- the same from the cells of both sides
-abbrev pub from_cells : (Outputs → Cell → Cell → Bool → Bool → ℕ) → Outputs → List Cell → List Cell → ℕ → ℕ
-from_cells f o source target m =
-    f o (get_or source (m % 16) no_cell) (get_or target (m / 16 % 4 * 4 + m % 4) no_cell) (eqb (m / 64 % 2) 1) (eqb (m / 128 % 2) 1)
+after_lt : (b : Bool) (k : ℕ) → k < 4 → after b k < 4
+after_lt true k h = omega arith
+after_lt false k h = omega arith
 
-abbrev pub by_cells : (Outputs → Cell → Cell → Bool → Bool → ℕ) → Side → Recipe → State → Bool → Bool → ℕ
-by_cells f s t a x y = f t.outputs (cell_of s a.source x y) (cell_of t.target a.target x y) a.any a.all
+low_after : (b : Bool) (k : ℕ) → k < 4 → low_bit (after b k) ≡ low_bit k || b
+low_after b k h = ap low_bit (sym (joined b k h)) ∙ low_of (low_bit k || b) (high k && b)
 
-module _ (m : ℕ) where
-  source_cell : (s : Side) → cell_at s (m % 16) ≡ cell_of s (state_of (m / 4)).source (eqb (m / 2 % 2) 1) (eqb (m % 2) 1)
-  source_cell s = λ i. cell_of s
-      (record { lo = is_one (m % 16 / 4 % 2) (m / 4 % 2) (omega arith) i; hi = is_one (m % 16 / 8 % 2) (m / 4 / 2 % 2) (omega arith) i })
-      (is_one (m % 16 / 2 % 2) (m / 2 % 2) (omega arith) i) (is_one (m % 16 % 2) (m % 2) (omega arith) i)
+high_after : (b : Bool) (k : ℕ) → k < 4 → high (after b k) ≡ high k && b
+high_after b k h = ap high (sym (joined b k h)) ∙ high_of (low_bit k || b) (high k && b)
 
-  target_lo : (m / 16 % 4 * 4 + m % 4) / 4 % 2 ≡ m / 4 / 4 % 2
-  target_lo =
-      let p : (m / 16 % 4 * 4 + m % 4) / 4 ≡ m / 16 % 4 = omega arith in
-      let q : m / 4 / 4 ≡ m / 16 = omega arith in
-      rw (p, q) (low_of_two (m / 16))
+-- the bits of a group are bits of the set
+set_bit : (set m n k : ℕ) → k < n → bit (set / 2 ^ m % 2 ^ n) k ≡ bit set (m + k)
+unfolding bit
+set_bit set m n k h =
+    ap (λ (w : ℕ). bit w k) (sym (word_mod n (set / 2 ^ m))) ∙ bit_word n (bit (set / 2 ^ m)) k h
+    ∙ ap (λ (x : ℕ). eqb (x % 2) 1) (shr-shr set m k)
 
-  target_hi : (m / 16 % 4 * 4 + m % 4) / 8 % 2 ≡ m / 4 / 8 % 2
-  target_hi =
-      let p : (m / 16 % 4 * 4 + m % 4) / 8 ≡ m / 16 % 4 / 2 = omega arith in
-      let q : m / 4 / 8 ≡ m / 16 / 2 = omega arith in
-      rw (p, q) (high_of_two (m / 16))
+-- ---- of the four states of two cells those that fail
 
-  target_cell : (s : Side) → cell_at s (m / 16 % 4 * 4 + m % 4) ≡ cell_of s (state_of (m / 4)).target (eqb (m / 2 % 2) 1) (eqb (m % 2) 1)
-  target_cell s =
-      let c : ℕ = m / 16 % 4 * 4 + m % 4 in
-      λ i. cell_of s
-      (record { lo = is_one (c / 4 % 2) (m / 4 / 4 % 2) target_lo i; hi = is_one (c / 8 % 2) (m / 4 / 8 % 2) target_hi i })
-      (is_one (c / 2 % 2) (m / 2 % 2) (omega arith) i) (is_one (c % 2) (m % 2) (omega arith) i)
+pull_word : (b : Bool) (f : ℕ → Bool) → pulled b (word 4 f) ≡ word 4 (λ k. f (after b k))
+unfolding pulled
+pull_word b f = word-ext 4 (λ k. bit (word 4 f) (after b k)) (λ k. f (after b k)) (λ k h. bit_word 4 f (after b k) (after_lt b k h))
 
-  from_cells_lem : (f : Outputs → Cell → Cell → Bool → Bool → ℕ) (s : Side) (t : Recipe) (source target : List Cell)
-      → Cells s source → Cells t.target target → from_cells f t.outputs source target m ≡ entry_at (by_cells f s t) m
-  from_cells_lem f s t source target p q =
-      let ep = p.at (m % 16) (omega arith) ∙ source_cell s in
-      let eq = q.at (m / 16 % 4 * 4 + m % 4) (omega arith) ∙ target_cell t.target in
-      λ i. f t.outputs (ep i) (eq i) (is_one (m / 64 % 2) (m / 4 / 16 % 2) (omega arith) i) (is_one (m / 128 % 2) (m / 4 / 32 % 2) (omega arith) i)
+xor_not : (x y : Bool) → exor x y ≡ not (beq y x)
+xor_not true true = refl
+xor_not true false = refl
+xor_not false true = refl
+xor_not false false = refl
 
-module _ (f : State → Bool → Bool → ℕ) (table : List ℕ) (known : (k : ℕ) → k < 256 → get_or table k 0 ≡ entry_at f k) where
-  at_slot : (i : ℕ) (x y : Bool) (m : ℕ) → m < 256 → m / 4 ≡ i → eqb (m / 2 % 2) 1 ≡ x → eqb (m % 2) 1 ≡ y
-      → get_or table m 0 ≡ f (state_of i) x y
-  at_slot i x y m h e u v = known m h ∙ (λ j. f (state_of (e j)) (u j) (v j))
+pub orders_lt : (code : ℕ) (to1 s tovf : Bool) → orders code to1 s tovf < 16
+unfolding orders
+orders_lt code to1 s tovf = word_lt 4 (λ k. shown_comparison code to1 (low_bit k) (high k) s tovf)
 
-  slots : (i : ℕ) (x y : Bool) → i < 64 → get_or table (slot i x y) 0 ≡ f (state_of i) x y
-  slots i false false h =
-      at_slot i false false (4 * i) (omega arith) (omega arith) (is_one (4 * i / 2 % 2) 0 (omega arith)) (is_one (4 * i % 2) 0 (omega arith))
-  slots i false true h =
-      at_slot i false true (4 * i + 1) (omega arith) (omega arith) (is_one ((4 * i + 1) / 2 % 2) 0 (omega arith)) (is_one ((4 * i + 1) % 2) 1 (omega arith))
-  slots i true false h =
-      at_slot i true false (4 * i + 2) (omega arith) (omega arith) (is_one ((4 * i + 2) / 2 % 2) 1 (omega arith)) (is_one ((4 * i + 2) % 2) 0 (omega arith))
-  slots i true true h =
-      at_slot i true true (4 * i + 3) (omega arith) (omega arith) (is_one ((4 * i + 3) / 2 % 2) 1 (omega arith)) (is_one ((4 * i + 3) % 2) 1 (omega arith))
+pub xor_fits : (a b : ℕ) → a < 16 → b < 16 → bit_xor a b < 16
+xor_fits a b h l = xor_lt 4 a b h l
 
-  tabled : Table f table
-  tabled = record { at = slots }
+pub join_fits : (a : ℕ) (differs : Bool) → a < 16 → bit_or a (15 * num differs) < 16
+join_fits a true h = or_lt 4 a 15 h (omega arith)
+join_fits a false h = or_lt 4 a 0 h (omega arith)
 
-pub tabled_from : (s : Side) (t : Recipe) (source target : List Cell) (moves tops : List ℕ) (m : ℕ) → 256 ≤ m → Cells s source → Cells t.target target
-    → ((k : ℕ) → k < m → get_or moves k 0 ≡ from_cells move_by t.outputs source target k)
-    → ((k : ℕ) → k < m → get_or tops k 0 ≡ from_cells top_by t.outputs source target k) → Tabled s t (record { moves = moves; tops = tops })
-tabled_from s t source target moves tops m h p q known-move known-top =
-    record {
-      moves = tabled (by_cells move_by s t) moves (λ k l. known-move k (omega arith) ∙ from_cells_lem k move_by s t source target p q);
-      tops = tabled (by_cells top_by s t) tops (λ k l. known-top k (omega arith) ∙ from_cells_lem k top_by s t source target p q);
-    }
+join_all : (differs : Bool) (f : ℕ → Bool) → bit_or (word 4 f) (15 * num differs) ≡ word 4 (λ k. f k || differs)
+join_all true f = ap (bit_or (word 4 f)) (sym (word_ones 4)) ∙ or_word 4 f (λ k. true)
+join_all false f = ap (bit_or (word 4 f)) (sym (word-zeros 4)) ∙ or_word 4 f (λ k. false)
+
+join_pulled : (b : Bool) (group : ℕ) (differs : Bool) → bit_or (pulled b group) (15 * num differs) ≡ word 4 (λ k. bit group (after b k) || differs)
+unfolding pulled
+join_pulled b group differs = join_all differs (λ k. bit group (after b k))
+
+-- a port differs, told in the order in which the code asks
+top_ports : (a b c d : Bool) → not d || (not a || (not b || not c)) ≡ not (a && (b && (c && d)))
+top_ports true true true true = refl
+top_ports true true true false = refl
+top_ports true true false true = refl
+top_ports true true false false = refl
+top_ports true false c true = refl
+top_ports true false c false = refl
+top_ports false b c true = refl
+top_ports false b c false = refl
+
+or_comm : (a b : Bool) → a || b ≡ b || a
+or_comm true true = refl
+or_comm true false = refl
+or_comm false true = refl
+or_comm false false = refl
+
+module _ (o : Outputs) (p q : Cell) where
+  -- O1 as the recipe shows it where any and all are the bits of k
+  order : ℕ → Bool
+  order k = shown_comparison o.code q.order (low_bit k) (high k) q.bit q.overflow
+
+  orders_differ : pulled q.bit (bit_xor (orders 1 p.order p.bit p.overflow) (orders o.code q.order q.bit q.overflow))
+      ≡ word 4 (λ k. exor p.order (order (after q.bit k)))
+  unfolding orders order
+  orders_differ = ap (pulled q.bit) (xor_word 4 (λ k. p.order) order) ∙ pull_word q.bit (λ k. exor p.order (order k))
+
+  order_there : (k : ℕ) → k < 4 → exor p.order (order (after q.bit k))
+      ≡ not (beq (shown_comparison o.code q.order (low_bit k || q.bit) (high k && q.bit) q.bit q.overflow) p.order)
+  unfolding order
+  order_there k h =
+      (λ i. exor p.order (shown_comparison o.code q.order (low_after q.bit k h i) (high_after q.bit k h i) q.bit q.overflow)) ∙ xor_not p.order _
+
+  pub next_index : (k : ℕ) → k < 4 → index_of (next_by p q (low_bit k) (high k)) ≡ 4 * group_of (memory p.ripple) (memory q.ripple) + after q.bit k
+  next_index k h = let e = joined q.bit k h in omega arith
+
+  set_there : (set k : ℕ) → k < 4 → bit (set / 2 ^ (4 * group_of (memory p.ripple) (memory q.ripple)) % 16) (after q.bit k) ≡ bit set (index_of (next_by p q (low_bit k) (high k)))
+  set_there set k h =
+      set_bit set (4 * group_of (memory p.ripple) (memory q.ripple)) 4 (after q.bit k) (after_lt q.bit k h) ∙ sym (ap (bit set) (next_index k h))
+
+  -- the law of the top place and of one place
+  place : (above : Option ℕ) → group_by above (shown_of whole p) (shown_of o q) ≡ word 4 (λ k. fails_by o above p q (low_bit k) (high k))
+  place None =
+      let cout : Bool = beq (shown_bit o.cout q.carry) p.carry in
+      let ovf : Bool = beq (shown_bit o.ovf q.overflow) p.overflow in
+      let differ : Bool = not (alike_by o p q) || (not cout || not ovf) in
+      ap (λ (x : ℕ). bit_or x (15 * num differ)) orders_differ
+      ∙ join_all differ (λ k. exor p.order (order (after q.bit k)))
+      ∙ word-ext 4 (λ k. exor p.order (order (after q.bit k)) || differ) (λ k. fails_by o None p q (low_bit k) (high k))
+      (λ k h. ap (λ (x : Bool). x || differ) (order_there k h) ∙ top_ports (alike_by o p q) cout ovf _)
+  place (Some set) =
+      let there : ℕ = set / 2 ^ (4 * group_of (memory p.ripple) (memory q.ripple)) % 16 in
+      let differ : Bool = not (alike_by o p q) in
+      join_pulled q.bit there differ
+      ∙ word-ext 4 (λ k. bit there (after q.bit k) || differ) (λ k. fails_by o (Some set) p q (low_bit k) (high k))
+      (λ k h. or_comm (bit there (after q.bit k)) differ ∙ ap (λ (x : Bool). differ || x) (set_there set k h))
+
+pub place_shown : (s : Side) (t : Recipe) (above : Option ℕ) (g pair : ℕ) (u v : Shown) → u ≡ shown_at whole s (g / 4) pair → v ≡ shown_at t.outputs t.target (g % 4) pair
+    → group_by above u v ≡ group_by_pair s t above g pair
+unfolding group_by_pair
+place_shown s t above g pair u v eu ev =
+    ap₂ (group_by above) eu ev
+    ∙ place t.outputs (cell_of s (ripple_of (g / 4)) (high pair) (low_bit pair)) (cell_of t.target (ripple_of (g % 4)) (high pair) (low_bit pair)) above

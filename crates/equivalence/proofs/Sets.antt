@@ -2,75 +2,140 @@
 use mathlib.Core.Path.{◌≡◌, refl, sym, ap, ap₂, ◌∙◌}
 use Prim.Native.Nat.{ℕ, zero, suc, ◌+◌, ◌-◌, ◌*◌, ◌/◌, ◌%◌, ◌^◌, ◌≤◌, ◌<◌}
 use native.Mathlib.Nat.{lt_of_lt_of_le}
-use native.Mathlib.Numerals.{add-one}
 use native.Mathlib.Omega.{arith}
-use mathlib.Core.Bool.{Bool, true, false, ◌&&◌, ◌||◌, true≢false}
-use mathlib.Core.List.{List}
-use lib.Dec.{eqb}
-use lib.ListN.{get_or}
-use lib.Pow.{pow_mono}
-use borrow.Author.Tests.{lt-leb}
-use Rattle.std.specs.Prelude.{if◌then◌else◌}
-use Rattle.bits.specs.Bits.{num, bit, word}
-use Rattle.bits.proofs.Words.{bit_word, word_lt}
+use mathlib.Core.Bool.{Bool, true, false, not, ◌&&◌, ◌||◌, true≢false}
+use lib.Bits.{bit_or}
+use lib.Dec.{ltb}
+use lib.Pow.{pow_mono, shl_exact}
+use borrow.Author.Tests.{lt-ltb, le-ltb, not-false}
+use Rattle.std.specs.Prelude.{Option, Some, None}
+use Rattle.bits.specs.Bits.{bit, word}
+use Rattle.bits.proofs.Words.{word_lt, word-ext, bit_word}
 use Rattle.binding.specs.declared.Side.{Side}
 use Rattle.binding.specs.declared.Recipe.{Recipe}
-use Rattle.automaton.specs.Machine.{next, alike, last, low_bit, agrees_from}
+use Rattle.automaton.specs.Machine.{cell_of, next, alike, last, low_bit, agrees_from}
 use Rattle.automaton.specs.declared.State.{State}
-use Rattle.equivalence.specs.Sets.{index_of, state_of, slot, Tabled, fails, some_fails, round, failing}
-use Rattle.equivalence.specs.declared.moves.Tables.{Tables}
-use Rattle.equivalence.proofs.States.{index_lt, state_index}
+use Rattle.equivalence.specs.Shown.{high}
+use Rattle.equivalence.specs.States.{state_in, index_of, state_of, memories, can_be}
+use Rattle.equivalence.specs.Sets.{fails_by, fails, some, member, group_by_pair, group_at, of_row, row_at, round, failing}
+use Rattle.equivalence.proofs.Memories.{few}
+use Rattle.equivalence.proofs.Words.{or_word, above_word, cut_word}
+use Rattle.equivalence.proofs.States.{index_lt, state_index, state_at, held, next_held}
 
--- ---- an entry
+-- ---- a group
 
-pub by_set : (set m : ℕ) → m < 64 → eqb (set / 2 ^ m % 2) 1 ≡ fails set m
-unfolding fails bit
-by_set set m h = rw (lt-leb 64 m h) refl
+module _ (s : Side) (t : Recipe) (above : Option ℕ) (g : ℕ) where
+  pub some_pair : (a b c d : ℕ) → can_be s t g ≡ true
+      → a ≡ group_by_pair s t above g 0 → b ≡ group_by_pair s t above g 1 → c ≡ group_by_pair s t above g 2 → d ≡ group_by_pair s t above g 3
+      → bit_or a (bit_or b (bit_or c d)) ≡ group_at s t above g
+  unfolding group_by_pair group_at
+  some_pair a b c d h ea eb ec ed =
+      let f : ℕ → ℕ → Bool = λ k. fails s t above (state_in g k) in
+      (λ i. bit_or (ea i) (bit_or (eb i) (bit_or (ec i) (ed i))))
+      ∙ ap (bit_or (word 4 (λ k. f k 0))) (ap (bit_or (word 4 (λ k. f k 1))) (or_word 4 (λ k. f k 2) (λ k. f k 3)) ∙ or_word 4 (λ k. f k 1) (λ k. f k 2 || f k 3))
+      ∙ or_word 4 (λ k. f k 0) (λ k. f k 1 || (f k 2 || f k 3))
+      ∙ word-ext 4 (λ k. some (f k)) (λ k. member s t above (4 * g + k))
+      (λ k l.
+      let e : (4 * g + k) / 4 ≡ g = omega arith in
+      ap (λ (a : State). some (fails s t above a)) (sym (state_at g k l)) ∙ rw (e, h) refl)
+
+  pub group_lt : group_at s t above g < 16
+  unfolding group_at
+  group_lt = word_lt 4 (λ k. member s t above (4 * g + k))
+
+pub placed_there : (word at : ℕ) → word < 2 ^ 16 → at ≤ 48 → word * 2 ^ at % 2 ^ 64 ≡ word * 2 ^ at
+placed_there word at h l = shl_exact {a = word} 16 at 64 h (omega arith)
+
+no_source : (a b c : Bool) → a ≡ false → (a && b) && c ≡ false
+no_source a b c h = rw h refl
+
+no_target : (a b c : Bool) → b ≡ false → (a && b) && c ≡ false
+no_target true b c h = rw h refl
+no_target false b c h = refl
+
+-- ---- the groups in which the source remembers p
+
+module _ (s : Side) (t : Recipe) (above : Option ℕ) (p : ℕ) where
+  pub row_start : 0 ≡ word (4 * 0) (of_row s t above p)
+  unfolding word
+  row_start = refl
+
+  pub within : (q : ℕ) → p < memories s.kind → q < memories t.target.kind → can_be s t (4 * p + q) ≡ true
+  within q h l =
+      let k = few t.target.kind in
+      let e : (4 * p + q) / 4 ≡ p = omega arith in
+      let r : (4 * p + q) % 4 ≡ q = omega arith in
+      rw (e, r, lt-ltb p (memories s.kind) h) (lt-ltb q (memories t.target.kind) l)
+
+  module _ (w b x q : ℕ) (e : w ≡ word (4 * q) (of_row s t above p)) (v : x ≡ group_at s t above (4 * p + q)) (u : b ≡ x * 2 ^ (4 * q)) where
+    pub row_next : w + b ≡ word (4 * (q + 1)) (of_row s t above p)
+    unfolding group_at of_row
+    row_next =
+        let n : 4 * q + 4 ≡ 4 * (q + 1) = omega arith in
+        let g : group_at s t above (4 * p + q) ≡ word 4 (λ k. of_row s t above p (4 * q + k)) =
+        word-ext 4 _ _ (λ k h. let i : 4 * (4 * p + q) + k ≡ 16 * p + (4 * q + k) = omega arith in ap (member s t above) i) in
+        ap₂ ◌+◌ e (u ∙ ap (λ (z : ℕ). z * 2 ^ (4 * q)) (v ∙ g)) ∙ above_word (4 * q) 4 (of_row s t above p) ∙ ap (λ (k : ℕ). word k (of_row s t above p)) n
+
+    pub row_fits : q < 4 → w + b < 2 ^ 64
+    row_fits h = rw row_next (lt_of_lt_of_le (word_lt (4 * (q + 1)) (of_row s t above p)) (pow_mono {i = 4 * (q + 1)} {j = 64} (omega arith)))
+
+  pub row_done : (w q : ℕ) → w ≡ word (4 * q) (of_row s t above p) → q ≡ memories t.target.kind → w ≡ row_at s t above p
+  unfolding row_at of_row
+  row_done w q e h =
+      let k = few t.target.kind in
+      let n : 4 * q + (16 - 4 * q) ≡ 16 = omega arith in
+      e ∙ cut_word (4 * q) (16 - 4 * q) (of_row s t above p) (λ i l m. let x : (16 * p + i) / 4 % 4 ≡ i / 4 = omega arith in
+      let y : memories t.target.kind ≤ i / 4 = omega arith in
+      no_target (ltb ((16 * p + i) / 4 / 4) (memories s.kind)) (ltb ((16 * p + i) / 4 % 4) (memories t.target.kind)) _
+      (ap (λ (m : ℕ). ltb m (memories t.target.kind)) x ∙ le-ltb (i / 4) (memories t.target.kind) y)) ∙ ap (λ (k : ℕ). word k (of_row s t above p)) n
+
+  pub row_lt : row_at s t above p < 2 ^ 16
+  unfolding row_at
+  row_lt = word_lt 16 (of_row s t above p)
 
 -- ---- a round
 
-pub bit-round : (table : List ℕ) (set i : ℕ) → i < 64 → bit (round table set) i ≡ some_fails table set i
-unfolding round
-bit-round table set i h = bit_word 64 (some_fails table set) i h
-
-pub round_start : (table : List ℕ) (set : ℕ) → 0 ≡ word 0 (some_fails table set)
+pub round_start : (s : Side) (t : Recipe) (above : Option ℕ) → 0 ≡ word (16 * 0) (member s t above)
 unfolding word
-round_start table set = refl
+round_start s t above = refl
 
-module _ (table : List ℕ) (set w b i : ℕ) (x : Bool)
-    (e : w ≡ word i (some_fails table set)) (v : x ≡ some_fails table set i) (u : b ≡ num x * 2 ^ i) where
-  pub round_next : w + b ≡ word (i + 1) (some_fails table set)
-  unfolding word
-  round_next = rw add-one (ap₂ ◌+◌ e (u ∙ ap (λ (z : Bool). num z * 2 ^ i) v))
+module _ (s : Side) (t : Recipe) (above : Option ℕ) (w b x p : ℕ)
+    (e : w ≡ word (16 * p) (member s t above)) (v : x ≡ row_at s t above p) (u : b ≡ x * 2 ^ (16 * p)) where
+  pub round_next : w + b ≡ word (16 * (p + 1)) (member s t above)
+  unfolding row_at of_row
+  round_next =
+      let n : 16 * p + 16 ≡ 16 * (p + 1) = omega arith in
+      ap₂ ◌+◌ e (u ∙ ap (λ (z : ℕ). z * 2 ^ (16 * p)) v)
+      ∙ above_word (16 * p) 16 (member s t above) ∙ ap (λ (k : ℕ). word k (member s t above)) n
 
-  pub round_fits : i < 64 → w + b < 2 ^ 64
-  round_fits h = rw round_next (lt_of_lt_of_le (word_lt (i + 1) (some_fails table set)) (pow_mono {i = i + 1} {j = 64} (omega arith)))
+  pub round_fits : p < 4 → w + b < 2 ^ 64
+  round_fits h = rw round_next (lt_of_lt_of_le (word_lt (16 * (p + 1)) (member s t above)) (pow_mono {i = 16 * (p + 1)} {j = 64} (omega arith)))
 
-pub round_done : (table : List ℕ) (set w i : ℕ) → w ≡ word i (some_fails table set) → i ≡ 64 → w ≡ round table set
+pub round_done : (s : Side) (t : Recipe) (above : Option ℕ) (w p : ℕ) → w ≡ word (16 * p) (member s t above) → p ≡ memories s.kind → w ≡ round s t above
 unfolding round
-round_done table set w i e h = e ∙ ap (λ (k : ℕ). word k (some_fails table set)) h
+round_done s t above w p e h =
+    let k = few s.kind in
+    let n : 16 * p + (64 - 16 * p) ≡ 64 = omega arith in
+    e ∙ cut_word (16 * p) (64 - 16 * p) (member s t above) (λ i l m.
+    no_source _ _ _ (le-ltb (i / 4 / 4) (memories s.kind) (omega arith))) ∙ ap (λ (k : ℕ). word k (member s t above)) n
 
 -- ---- the rounds
 
-module _ (tables : Tables) where
-  pub failing-top : failing tables 0 ≡ round tables.tops 0
-  unfolding failing
-  failing-top = refl
-
-  pub failing-next : (j : ℕ) → failing tables (j + 1) ≡ round tables.moves (failing tables j)
-  unfolding failing
-  failing-next j = rw add-one refl
-
+module _ (s : Side) (t : Recipe) where
   -- a set that repeats stays
-  stays : (j : ℕ) → round tables.moves (failing tables j) ≡ failing tables j → (d : ℕ) → failing tables (d + j) ≡ failing tables j
+  stays : (j : ℕ) → round s t (Some (failing s t j)) ≡ failing s t j → (d : ℕ) → failing s t (d + j) ≡ failing s t j
   unfolding failing
-  stays j e zero = let u : 0 + j ≡ j = omega arith in ap (failing tables) u
+  stays j e zero = let u : 0 + j ≡ j = omega arith in ap (failing s t) u
   stays j e (suc d) =
       let u : suc d + j ≡ suc (d + j) = omega arith in
-      ap (failing tables) u ∙ ap (round tables.moves) (stays j e d) ∙ e
+      ap (failing s t) u ∙ ap (λ (set : ℕ). round s t (Some set)) (stays j e d) ∙ e
 
-  pub stable : (j m : ℕ) → j ≤ m → round tables.moves (failing tables j) ≡ failing tables j → failing tables m ≡ failing tables j
-  stable j m h e = let u : m ≡ m - j + j = omega arith in ap (failing tables) u ∙ stays j e (m - j)
+  pub stable : (j m : ℕ) → j ≤ m → round s t (Some (failing s t j)) ≡ failing s t j → failing s t m ≡ failing s t j
+  stable j m h e = let u : m ≡ m - j + j = omega arith in ap (failing s t) u ∙ stays j e (m - j)
+
+pub bit-round : (s : Side) (t : Recipe) (above : Option ℕ) (i : ℕ) → i < 64 → bit (round s t above) i ≡ member s t above i
+unfolding round
+bit-round s t above i h = bit_word 64 (member s t above) i h
 
 -- ---- a state outside the set
 
@@ -78,38 +143,39 @@ or_none : (a b : Bool) → a || b ≡ false → (a ≡ false) × (b ≡ false)
 or_none true b e = absurd (true≢false e)
 or_none false b e = (refl, e)
 
-none_fails : (table : List ℕ) (set i : ℕ) → some_fails table set i ≡ false → (x y : Bool) → fails set (get_or table (slot i x y) 0) ≡ false
-none_fails table set i e =
-    let p = or_none (fails set (get_or table (4 * i) 0)) _ e in
-    let q = or_none (fails set (get_or table (4 * i + 1) 0)) _ p.1 in
-    let r = or_none (fails set (get_or table (4 * i + 2) 0)) (fails set (get_or table (4 * i + 3) 0)) q.1 in
-    go p.0 q.0 r.0 r.1
+or_not : (a b : Bool) → not a || b ≡ false → (a ≡ true) × (b ≡ false)
+or_not true b e = (refl, e)
+or_not false b e = absurd (true≢false e)
+
+none_of : (f : Bool → Bool → Bool) → some (λ k. f (high k) (low_bit k)) ≡ false → (x y : Bool) → f x y ≡ false
+none_of f e x y =
+    let p = or_none (f false false) _ e in
+    let q = or_none (f false true) _ p.1 in
+    let r = or_none (f true false) (f true true) q.1 in
+    go x y p.0 q.0 r.0 r.1
   where
-    go : fails set (get_or table (4 * i) 0) ≡ false → fails set (get_or table (4 * i + 1) 0) ≡ false → fails set (get_or table (4 * i + 2) 0) ≡ false
-        → fails set (get_or table (4 * i + 3) 0) ≡ false → (x y : Bool) → fails set (get_or table (slot i x y) 0) ≡ false
-    go a b c d false false = a
-    go a b c d false true = b
-    go a b c d true false = c
-    go a b c d true true = d
+    go : (x y : Bool) → f false false ≡ false → f false true ≡ false → f true false ≡ false → f true true ≡ false → f x y ≡ false
+    go false false a b c d = a
+    go false true a b c d = b
+    go true false a b c d = c
+    go true true a b c d = d
 
-passes : (set m : ℕ) (b : Bool) → m < 64 → fails set (if b then m else 64) ≡ false → (b ≡ true) × (bit set m ≡ false)
-unfolding fails
-passes set m true h e = (refl, rw (lt-leb 64 m h) at e)
-passes set m false h e = absurd (true≢false e)
+module _ (s : Side) (t : Recipe) where
+  outside : (above : Option ℕ) (a : State) → held s t a ≡ true → bit (round s t above) (index_of a) ≡ false
+      → (x y : Bool) → fails_by t.outputs above (cell_of s a.source x y) (cell_of t.target a.target x y) a.any a.all ≡ false
+  outside above a m e =
+      let u : some (fails s t above (state_of (index_of a))) ≡ false =
+      ap (λ (b : Bool). b && some (fails s t above (state_of (index_of a)))) (sym m)
+      ∙ sym (bit-round s t above (index_of a) (index_lt a)) ∙ e in
+      none_of (λ x y. fails_by t.outputs above (cell_of s a.source x y) (cell_of t.target a.target x y) a.any a.all)
+      (ap (λ (b : State). some (fails s t above b)) (sym (state_index a)) ∙ u)
 
-module _ (s : Side) (t : Recipe) (tables : Tables) (known : Tabled s t tables) where
-  pub agrees : (j i : ℕ) → i < 64 → bit (failing tables j) i ≡ false → (l r : ℕ) → agrees_from s t j (state_of i) l r ≡ true
+  pub agrees : (j : ℕ) (a : State) → held s t a ≡ true → bit (failing s t j) (index_of a) ≡ false → (l r : ℕ) → agrees_from s t j a l r ≡ true
   unfolding agrees_from failing
-  agrees zero i h e l r =
+  agrees zero a m e l r = not-false (last s t a (low_bit l) (low_bit r)) (outside None a m e (low_bit l) (low_bit r))
+  agrees (suc j) a m e l r =
       let x : Bool = low_bit l in
       let y : Bool = low_bit r in
-      let f = none_fails tables.tops 0 i (sym (bit-round tables.tops 0 i h) ∙ e) x y in
-      (passes 0 0 (last s t (state_of i) x y) (omega arith) (ap (fails 0) (sym (known.tops.at i x y h)) ∙ f)).0
-  agrees (suc j) i h e l r =
-      let x : Bool = low_bit l in
-      let y : Bool = low_bit r in
-      let b : State = next s t (state_of i) x y in
-      let f = none_fails tables.moves (failing tables j) i (sym (bit-round tables.moves (failing tables j) i h) ∙ e) x y in
-      let p = passes (failing tables j) (index_of b) (alike s t (state_of i) x y) (index_lt b) (ap (fails (failing tables j)) (sym (known.moves.at i x y h)) ∙ f) in
-      ap₂ ◌&&◌ p.0
-      (ap (λ (a : State). agrees_from s t j a (l / 2) (r / 2)) (sym (state_index b)) ∙ agrees j (index_of b) (index_lt b) p.1 (l / 2) (r / 2))
+      let n : State = next s t a x y in
+      let p = or_not (alike s t a x y) (bit (failing s t j) (index_of n)) (outside (Some (failing s t j)) a m e x y) in
+      ap₂ ◌&&◌ p.0 (agrees j n (next_held s t a x y m) p.1 (l / 2) (r / 2))

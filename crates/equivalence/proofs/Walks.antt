@@ -1,169 +1,243 @@
--- The walk to operands at which a recipe fails: one place of it.
+-- The walk to operands at which a recipe fails: a pair of bits by which a state fails, for how many places it leads on, and the whole walk.
 use mathlib.Core.Path.{◌≡◌, refl, sym, ap, ap₂, ◌∙◌, subst}
-use Prim.Native.Nat.{ℕ, zero, suc, ◌+◌, ◌-◌, ◌*◌, ◌/◌, ◌%◌, ◌≤◌, ◌<◌}
-use native.Mathlib.Nat.{pow-suc, pos_of_ne-zero}
+use Prim.Native.Nat.{ℕ, zero, suc, ◌+◌, ◌-◌, ◌*◌, ◌/◌, ◌%◌, ◌^◌, ◌≤◌, ◌<◌}
+use native.Mathlib.Nat.{zero-add, suc-add, lt_of_lt_of_le}
 use native.Mathlib.Omega.{arith}
-use mathlib.Core.Bool.{Bool, true, false, ◌&&◌, true≢false}
-use mathlib.Core.List.{List}
+use native.Mathlib.Decide.{dec_lt}
+use mathlib.Core.Bool.{Bool, true, false, not, ◌&&◌, ◌||◌}
+use lib.Dec.{eqb, ltb}
 use lib.ListN.{get_or}
-use lib.Pow.{pow_pos}
-use Rattle.std.specs.Prelude.{Some, None, if◌then◌else◌}
-use Rattle.bits.specs.Bits.{num, bit}
-use Rattle.bits.proofs.Sums.{num-lt}
-use Rattle.bits.proofs.Words.{suc-sub_one}
+use lib.Pow.{pow_pos, pow_mono}
+use borrow.Author.Tests.{not-true, eqb-true, ltb-true, le-ltb}
+use Rattle.std.specs.Prelude.{Option, Some, None, if◌then◌else◌}
+use Rattle.words.proofs.Choices.{either, and_split}
+use Rattle.bits.specs.Bits.{bit}
+use Rattle.bits.proofs.Words.{bit_word, suc-sub_one}
 use Rattle.binding.specs.declared.Side.{Side}
 use Rattle.binding.specs.declared.Recipe.{Recipe}
-use Rattle.automaton.specs.Machine.{next, alike, last, low_bit, agrees_from}
+use Rattle.automaton.specs.Machine.{cell_of, next, alike, last, low_bit, agrees_from}
 use Rattle.automaton.specs.declared.State.{State}
-use Rattle.equivalence.specs.Sets.{index_of, state_of, move_of, top_of, slot, Table, Tabled, fails, some_fails, failing, kept_at, Failing, Refuted, Goes, Stepped}
-use Rattle.equivalence.specs.declared.moves.Tables.{Tables}
+use Rattle.equivalence.specs.Shown.{high, ripple_of, whole}
+use Rattle.equivalence.specs.States.{state_in, index_of, state_of, can_be, shown_at}
+use Rattle.equivalence.specs.Sets.{fails, some, leads_by, member, group_by_pair, round, failing, above_at, kept_at, kept_above, run, places_of, leads, Failing, Refuted, Goes, Stepped}
+use Rattle.equivalence.specs.declared.shown.Shown.{Shown}
 use Rattle.equivalence.specs.declared.rounds.Rounds.{Rounds}
 use Rattle.equivalence.specs.declared.witness.Step.{Step}
-use Rattle.equivalence.proofs.States.{eqb_num, index_lt, state_index}
-use Rattle.equivalence.proofs.Sets.{by_set, bit-round, failing-top, failing-next}
+use Rattle.equivalence.proofs.States.{index_lt, state_index}
+use Rattle.equivalence.proofs.Memories.{is_one}
+use Rattle.equivalence.proofs.Places.{next_index}
+use Rattle.equivalence.proofs.Runs.{run_none, run_one, run_next, run_lt}
+use Rattle.equivalence.proofs.Sets.{bit-round}
 
--- ---- a pair of bits, by its number
+-- ---- the place above
 
-record Pair (i k : ℕ) : Type 0 where
-  x : Bool
-  y : Bool
-  at : 4 * i + k ≡ slot i x y
-  left : k / 2 ≡ num x
-  right : k % 2 ≡ num y
+pub top_above : (rounds : Rounds) (j : ℕ) → j ≡ 0 → None ≡ kept_above rounds j
+top_above rounds zero e = refl
+top_above rounds (suc j) e = absurd (omega arith)
 
-pair : (i k : ℕ) → k < 4 → Pair i k
-pair i zero h = record { x = false; y = false; at = omega arith; left = refl; right = refl }
-pair i (suc zero) h = record { x = false; y = true; at = refl; left = refl; right = refl }
-pair i (suc (suc zero)) h = record { x = true; y = false; at = refl; left = refl; right = refl }
-pair i (suc (suc (suc zero))) h = record { x = true; y = true; at = refl; left = refl; right = refl }
-pair i (suc (suc (suc (suc k)))) h = absurd (omega arith)
+pub low_above : (rounds : Rounds) (j at : ℕ) → (j ≡ 0 → ⊥) → at ≡ kept_at rounds.last (j - 1) → Some (get_or rounds.sets at 0) ≡ kept_above rounds j
+low_above rounds zero at z e = absurd (z refl)
+low_above rounds (suc j) at z e = ap (λ (k : ℕ). Some (get_or rounds.sets k 0)) (e ∙ ap (kept_at rounds.last) (suc-sub_one j))
 
-low_bit_lem : (x : Bool) (d l : ℕ) → d ≡ num x → low_bit (d + 2 * l) ≡ x
-low_bit_lem x d l e = eqb_num ((d + 2 * l) % 2) x (omega (arith, num-lt x))
+-- ---- a state that fails
 
-low_rest : (x : Bool) (d l : ℕ) → d ≡ num x → (d + 2 * l) / 2 ≡ l
-low_rest x d l e = omega (arith, num-lt x)
+pub fails_there : (s : Side) (t : Recipe) (above : Option ℕ) (i pair : ℕ) → bit (group_by_pair s t above (i / 4) pair) (i % 4) ≡ fails s t above (state_of i) pair
+unfolding group_by_pair
+fails_there s t above i pair = bit_word 4 (λ k. fails s t above (state_in (i / 4) k) pair) (i % 4) (omega arith)
 
--- ---- an entry that fails
+module _ (s : Side) (t : Recipe) (rounds : Rounds) (i : ℕ) where
+  above_known : (j : ℕ) → Failing s t rounds j i → kept_above rounds j ≡ above_at s t j
+  above_known zero g = refl
+  above_known (suc j) g = ap Some (g.below j (omega arith))
 
-top-fails : (b : Bool) → fails 0 (if b then 0 else 64) ≡ true → b ≡ false
-unfolding fails bit
-top-fails true e = absurd (true≢false (sym e))
-top-fails false e = refl
+  failing_round : (j : ℕ) → failing s t j ≡ round s t (above_at s t j)
+  unfolding failing
+  failing_round zero = refl
+  failing_round (suc j) = refl
 
-differs : (b : Bool) (m : ℕ) → m < 64 → 64 ≤ (if b then m else 64) → b ≡ false
-differs true m h g = absurd (omega arith)
-differs false m h g = refl
+  pub fails_here : (j : ℕ) (above : Option ℕ) → Failing s t rounds j i → above ≡ kept_above rounds j → member s t above i ≡ true
+  fails_here j above g e =
+      ap (λ (x : Option ℕ). member s t x i) (e ∙ above_known j g) ∙ sym (bit-round s t (above_at s t j) i g.state)
+      ∙ ap (λ (w : ℕ). bit w i) (sym (failing_round j)) ∙ g.member
 
-leads : (b : Bool) (m : ℕ) → (if b then m else 64) < 64 → (b ≡ true) × ((if b then m else 64) ≡ m)
-leads true m h = (refl, refl)
-leads false m h = absurd (omega arith)
+  pub can_be_here : (j : ℕ) → Failing s t rounds j i → can_be s t (i / 4) ≡ true
+  can_be_here j g = (and_split _ _ (fails_here j (kept_above rounds j) g refl)).0
 
-and_second : (a b : Bool) → b ≡ false → a && b ≡ false
-and_second true b e = e
-and_second false b e = refl
+-- ---- a pair of bits below other operands
+
+left_bit : (pair l : ℕ) → pair < 4 → low_bit (pair / 2 + 2 * l) ≡ high pair
+left_bit pair l h = is_one ((pair / 2 + 2 * l) % 2) (pair / 2 % 2) (omega arith)
+
+right_bit : (pair r : ℕ) → low_bit (pair % 2 + 2 * r) ≡ low_bit pair
+right_bit pair r = is_one ((pair % 2 + 2 * r) % 2) (pair % 2) (omega arith)
+
+left_rest : (pair l : ℕ) → pair < 4 → (pair / 2 + 2 * l) / 2 ≡ l
+left_rest pair l h = omega arith
+
+right_rest : (pair r : ℕ) → (pair % 2 + 2 * r) / 2 ≡ r
+right_rest pair r = omega arith
 
 -- ---- one place of the walk
 
-module _ (s : Side) (t : Recipe) (i k : ℕ) (h : k < 4) (b : i < 64) where
-  top-ends : (tops : List ℕ) → Table (top_of s t) tops → fails 0 (get_or tops (4 * i + k) 0) ≡ true
-      → (l r : ℕ) → agrees_from s t 0 (state_of i) (k / 2 + 2 * l) (k % 2 + 2 * r) ≡ false
+pub leads_shown : (s : Side) (t : Recipe) (i pair : ℕ) (u v : Shown) → u ≡ shown_at whole s (i / 4 / 4) pair → v ≡ shown_at t.outputs t.target (i / 4 % 4) pair
+    → leads_by u v (i % 4) ≡ leads s t i pair
+unfolding leads
+leads_shown s t i pair u v eu ev = ap₂ (λ (u v : Shown). leads_by u v (i % 4)) eu ev
+
+module _ (s : Side) (t : Recipe) (rounds : Rounds) (i pair : ℕ) (h : pair < 4) where
+  ends_at_top : fails s t None (state_of i) pair ≡ true
+      → (l r : ℕ) → agrees_from s t 0 (state_of i) (pair / 2 + 2 * l) (pair % 2 + 2 * r) ≡ false
   unfolding agrees_from
-  top-ends tops known e l r =
-      let p = pair i k h in
-      let f : fails 0 (top_of s t (state_of i) p.x p.y) ≡ true =
-      ap (fails 0) (sym (known.at i p.x p.y b)) ∙ ap (λ (z : ℕ). fails 0 (get_or tops z 0)) (sym p.at) ∙ e in
-      ap₂ (last s t (state_of i)) (low_bit_lem p.x (k / 2) l p.left) (low_bit_lem p.y (k % 2) r p.right)
-      ∙ top-fails (last s t (state_of i) p.x p.y) f
+  ends_at_top e l r = ap₂ (last s t (state_of i)) (left_bit pair l h) (right_bit pair r) ∙ not-true _ e
 
-  module _ (moves : List ℕ) (known : Table (move_of s t) moves) (j l r : ℕ) where
-    entry : (p : Pair i k) → get_or moves (4 * i + k) 0 ≡ move_of s t (state_of i) p.x p.y
-    entry p = ap (λ (z : ℕ). get_or moves z 0) p.at ∙ known.at i p.x p.y b
+  after_pair : State
+  after_pair = next s t (state_of i) (high pair) (low_bit pair)
 
-    low_differs : 64 ≤ get_or moves (4 * i + k) 0 → agrees_from s t (suc j) (state_of i) (k / 2 + 2 * l) (k % 2 + 2 * r) ≡ false
-    unfolding agrees_from
-    low_differs g =
-        let p = pair i k h in
-        let n : State = next s t (state_of i) p.x p.y in
-        let f : 64 ≤ move_of s t (state_of i) p.x p.y = rw (entry p) at g in
-        ap₂ ◌&&◌
-        (ap₂ (alike s t (state_of i)) (low_bit_lem p.x (k / 2) l p.left) (low_bit_lem p.y (k % 2) r p.right)
-        ∙ differs (alike s t (state_of i) p.x p.y) (index_of n) (index_lt n) f) refl
+  opened : (j l r : ℕ) → agrees_from s t (suc j) (state_of i) (pair / 2 + 2 * l) (pair % 2 + 2 * r)
+      ≡ alike s t (state_of i) (high pair) (low_bit pair) && agrees_from s t j after_pair l r
+  unfolding agrees_from after_pair
+  opened j l r =
+      (λ k. alike s t (state_of i) (left_bit pair l h k) (right_bit pair r k)
+      && agrees_from s t j (next s t (state_of i) (left_bit pair l h k) (right_bit pair r k)) (left_rest pair l h k) (right_rest pair r k))
 
-    low_leads : get_or moves (4 * i + k) 0 < 64 → agrees_from s t j (state_of (get_or moves (4 * i + k) 0)) l r ≡ false
-        → agrees_from s t (suc j) (state_of i) (k / 2 + 2 * l) (k % 2 + 2 * r) ≡ false
-    unfolding agrees_from
-    low_leads g e =
-        let p = pair i k h in
-        let n : State = next s t (state_of i) p.x p.y in
-        let f : move_of s t (state_of i) p.x p.y < 64 = rw (entry p) at g in
-        let z = leads (alike s t (state_of i) p.x p.y) (index_of n) f in
-        let same : state_of (get_or moves (4 * i + k) 0) ≡ n = ap state_of (entry p ∙ z.1) ∙ state_index n in
-        let rest : agrees_from s t j n l r ≡ false = ap (λ (a : State). agrees_from s t j a l r) (sym same) ∙ e in
-        and_second (alike s t (state_of i) (low_bit (k / 2 + 2 * l)) (low_bit (k % 2 + 2 * r))) _
-        (ap₂ (λ (x y : Bool). agrees_from s t j (next s t (state_of i) x y) ((k / 2 + 2 * l) / 2) ((k % 2 + 2 * r) / 2))
-        (low_bit_lem p.x (k / 2) l p.left) (low_bit_lem p.y (k % 2) r p.right)
-        ∙ ap₂ (agrees_from s t j n) (low_rest p.x (k / 2) l p.left) (low_rest p.y (k % 2) r p.right) ∙ rest)
+  kept_last : (k : ℕ) → rounds.last ≤ k → kept_at rounds.last k ≡ rounds.last
+  kept_last k l = rw (le-ltb k rounds.last l) refl
 
-module _ (tables : Tables) (i : ℕ) where
-  pub top_member : (j : ℕ) → i < 64 → j ≡ 0 → bit (failing tables j) i ≡ true → some_fails tables.tops 0 i ≡ true
-  top_member j b e f =
-      sym (bit-round tables.tops 0 i b) ∙ ap (λ (w : ℕ). bit w i) (sym (failing-top tables))
-      ∙ ap (λ (z : ℕ). bit (failing tables z) i) (sym e) ∙ f
+  module _ (j m : ℕ) (g : Failing s t rounds (suc j) i) (n : m ≡ index_of after_pair) where
+    -- where O0 agrees and the state after the pair fails
+    module _ (e : alike s t (state_of i) (high pair) (low_bit pair) ≡ true) (f : bit (failing s t j) (index_of after_pair) ≡ true) where
+      on : (d l r : ℕ) → agrees_from s t d (state_of m) l r ≡ false → agrees_from s t (suc d) (state_of i) (pair / 2 + 2 * l) (pair % 2 + 2 * r) ≡ false
+      on d l r z =
+          opened d l r
+          ∙ ap₂ ◌&&◌ e (ap (λ (a : State). agrees_from s t d a l r) (sym (ap state_of n ∙ state_index after_pair)) ∙ z)
 
-  pub ends_at_top : (j k : ℕ) → i < 64 → j ≡ 0 → k < 4 → fails 0 (get_or tables.tops (4 * i + k) 0) ≡ true
-      → (s : Side) (t : Recipe) → Tabled s t tables → (l r : ℕ) → agrees_from s t j (state_of i) (k / 2 + 2 * l) (k % 2 + 2 * r) ≡ false
-  ends_at_top j k b e h f s t known l r = rw e (top-ends s t i k h b tables.tops known.tops f l r)
+      failing_at : (k : ℕ) → k ≤ j → bit (failing s t k) m ≡ true → Failing s t rounds k m
+      failing_at k l b =
+          record {
+            last_fits = g.last_fits;
+            places = omega (arith, g.places);
+            state = rw n (index_lt after_pair);
+            below = λ k p. g.below k (omega arith);
+            member = b;
+          }
 
-  pub ends_below : (j k : ℕ) → i < 64 → (j ≡ 0 → ⊥) → k < 4 → 64 ≤ get_or tables.moves (4 * i + k) 0
-      → (s : Side) (t : Recipe) → Tabled s t tables → (l r : ℕ) → agrees_from s t j (state_of i) (k / 2 + 2 * l) (k % 2 + 2 * r) ≡ false
-  ends_below zero k b z h f s t known l r = absurd (z refl)
-  ends_below (suc j) k b z h f s t known l r = low_differs s t i k h b tables.moves known.moves j l r f
+      one_place : Goes s t rounds (suc j) i pair 1 (Some m)
+      one_place =
+          rw (suc-sub_one j) (
+            omega arith,
+            omega arith,
+            failing_at j (omega arith) (rw n f),
+            λ l r z. ap₂ (agrees_from s t (suc j) (state_of i)) (run_one l (pair / 2)) (run_one r (pair % 2)) ∙ on j l r z,
+          )
 
-module _ (tables : Tables) (rounds : Rounds) (i : ℕ) where
-  pub low_member : (j at : ℕ) → Failing tables rounds j i → (j ≡ 0 → ⊥) → at ≡ kept_at rounds.last (j - 1) → some_fails tables.moves (get_or rounds.sets at 0) i ≡ true
-  low_member j at g z e =
-      let h : 0 < j = pos_of_ne-zero z in
-      let u : j - 1 + 1 ≡ j = omega arith in
-      let set : get_or rounds.sets at 0 ≡ failing tables (j - 1) = ap (λ (z : ℕ). get_or rounds.sets z 0) e ∙ g.below (j - 1) (omega arith) in
-      ap (λ (w : ℕ). some_fails tables.moves w i) set ∙ sym (bit-round tables.moves (failing tables (j - 1)) i g.state)
-      ∙ ap (λ (w : ℕ). bit w i) (sym (failing-next tables (j - 1))) ∙ ap (λ (z : ℕ). bit (failing tables z) i) u ∙ g.member
+      again : m ≡ i → (c d l r : ℕ) → agrees_from s t d (state_of i) l r ≡ false
+          → agrees_from s t (c + d) (state_of i) (run c (pair / 2) l) (run c (pair % 2) r) ≡ false
+      again w zero d l r z =
+          (λ k. agrees_from s t (zero-add d k) (state_of i) (run_none l (pair / 2) k) (run_none r (pair % 2) k)) ∙ z
+      again w (suc c) d l r z =
+          (λ k. agrees_from s t (suc-add c d k) (state_of i) (sym (run_next l c (pair / 2) (omega arith)) k) (sym (run_next r c (pair % 2) (omega arith)) k))
+          ∙ on (c + d) (run c (pair / 2) l) (run c (pair % 2) r)
+          (ap (λ (k : ℕ). agrees_from s t (c + d) (state_of k) (run c (pair / 2) l) (run c (pair % 2) r)) w ∙ again w c d l r z)
 
-  next_failing : (j at m : ℕ) → Failing tables rounds j i → 0 < j → at ≡ kept_at rounds.last (j - 1) → fails (get_or rounds.sets at 0) m ≡ true → m < 64
-      → Failing tables rounds (j - 1) m
-  unfolding bit
-  next_failing j at m g h e f l =
-      let set : get_or rounds.sets at 0 ≡ failing tables (j - 1) = ap (λ (z : ℕ). get_or rounds.sets z 0) e ∙ g.below (j - 1) (omega arith) in
-      record {
-        last_fits = g.last_fits;
-        places = omega (arith, g.places);
-        state = l;
-        below = λ n p. g.below n (omega arith);
-        member = ap (λ (w : ℕ). bit w m) (sym set) ∙ by_set (get_or rounds.sets at 0) m l ∙ f;
-      }
+      all_places : eqb m i && ltb rounds.last (suc j) ≡ true → Goes s t rounds (suc j) i pair (suc j - rounds.last) (Some m)
+      all_places q =
+          let p = and_split (eqb m i) (ltb rounds.last (suc j)) q in
+          let w = eqb-true m i p.0 in
+          let k : rounds.last < suc j = ltb-true rounds.last (suc j) p.1 in
+          let back : suc j - (suc j - rounds.last) ≡ rounds.last = omega arith in
+          let whole : suc j - rounds.last + rounds.last ≡ suc j = omega arith in
+          let set : failing s t j ≡ failing s t rounds.last =
+          sym (g.below j (omega arith)) ∙ ap (λ (x : ℕ). get_or rounds.sets x 0) (kept_last j (omega arith) ∙ sym (kept_last rounds.last (omega arith)))
+          ∙ g.below rounds.last k in (
+            omega arith,
+            omega arith,
+            rw back (failing_at rounds.last (omega arith) (ap (λ (x : ℕ). bit x m) (sym set) ∙ rw n f)),
+            λ l r z. ap (λ (x : ℕ). agrees_from s t x (state_of i) (run (suc j - rounds.last) (pair / 2) l) (run (suc j - rounds.last) (pair % 2) r)) (sym whole)
+                ∙ again w (suc j - rounds.last) rounds.last l r ((λ x. agrees_from s t (sym back x) (state_of (sym w x)) l r) ∙ z),
+          )
 
-  pub leads_on : (j k at : ℕ) → Failing tables rounds j i → (j ≡ 0 → ⊥) → at ≡ kept_at rounds.last (j - 1) → k < 4
-      → fails (get_or rounds.sets at 0) (get_or tables.moves (4 * i + k) 0) ≡ true → get_or tables.moves (4 * i + k) 0 < 64
-      → Stepped tables rounds j i (record { pair = k; leads = Some (get_or tables.moves (4 * i + k) 0) })
-  leads_on zero k at g z e h f l = absurd (z refl)
-  leads_on (suc j) k at g z e h f m = (
+    goes : (b : Bool) → alike s t (state_of i) (high pair) (low_bit pair) ≡ b → not b || bit (failing s t j) (index_of after_pair) ≡ true
+        → Goes s t rounds (suc j) i pair (places_of rounds.last (suc j) i (if b then Some m else None)) (if b then Some m else None)
+    goes false e f = (
+      refl,
+      λ l r. ap₂ (agrees_from s t (suc j) (state_of i)) (run_one l (pair / 2)) (run_one r (pair % 2))
+          ∙ opened j l r ∙ ap (λ (b : Bool). b && agrees_from s t j after_pair l r) e,
+    )
+    goes true e f = either (λ (p : ℕ). Goes s t rounds (suc j) i pair p (Some m)) (eqb m i && ltb rounds.last (suc j)) (all_places e f) (λ h. one_place e f)
+
+  pub steps_at_top : (j : ℕ) (above : Option ℕ) → Failing s t rounds j i → j ≡ 0 → above ≡ kept_above rounds j → fails s t above (state_of i) pair ≡ true
+      → Stepped s t rounds j i (record { pair = pair; places = 1; leads = None })
+  steps_at_top zero above g z e f = (
     h,
     (
-      pos_of_ne-zero z,
-      next_failing (suc j) at (get_or tables.moves (4 * i + k) 0) g (pos_of_ne-zero z) e f m,
-      λ s t known l r q. low_leads s t i k h g.state tables.moves known j l r m (rw suc-sub_one at q),
+      refl,
+      λ l r. ap₂ (agrees_from s t 0 (state_of i)) (run_one l (pair / 2)) (run_one r (pair % 2))
+          ∙ ends_at_top (ap (λ (x : Option ℕ). fails s t x (state_of i) pair) (sym e) ∙ f) l r,
     ),
   )
+  steps_at_top (suc j) above g z e f = absurd (omega arith)
 
-  -- ---- the whole walk
+  pub steps_below : (j : ℕ) (above to : Option ℕ) (places : ℕ) → Failing s t rounds j i → (j ≡ 0 → ⊥) → above ≡ kept_above rounds j
+      → fails s t above (state_of i) pair ≡ true → to ≡ leads s t i pair → places ≡ places_of rounds.last j i to
+      → Stepped s t rounds j i (record { pair = pair; places = places; leads = to })
+  unfolding leads after_pair
+  steps_below zero above to places g z e f el ep = absurd (z refl)
+  steps_below (suc j) above to places g z e f el ep = (
+    h,
+    subst (λ (p : ℕ). Goes s t rounds (suc j) i pair p to) (sym ep)
+        (subst (λ (x : Option ℕ). Goes s t rounds (suc j) i pair (places_of rounds.last (suc j) i x) x) (sym el)
+        (goes j _ g
+        (sym (next_index t.outputs (cell_of s (ripple_of (i / 4 / 4)) (high pair) (low_bit pair)) (cell_of t.target (ripple_of (i / 4 % 4)) (high pair) (low_bit pair)) (i % 4) (omega arith)))
+        (alike s t (state_of i) (high pair) (low_bit pair)) refl
+        (ap (λ (x : Option ℕ). fails s t x (state_of i) pair) (sym (e ∙ above_known s t rounds i (suc j) g)) ∙ f))),
+  )
 
-  pub ends_there : (j : ℕ) (r : Step) (left right : ℕ) → Stepped tables rounds j i r → r.leads ≡ None
-      → left ≡ r.pair / 2 + 2 * 0 → right ≡ r.pair % 2 + 2 * 0 → Refuted tables j i left right
-  ends_there j r left right z e u v =
+pub one_more : (f : ℕ → Bool) (n : ℕ) → ((k : ℕ) → k < n → f k ≡ false) → f n ≡ false → (k : ℕ) → k < n + 1 → f k ≡ false
+one_more f n e h k l =
+    elim (dec_lt k n) [
+      | yes v ↦ e k v
+      | no v ↦ let w : k ≡ n = omega arith in rw w h
+    ]
+
+-- where none of three pairs fails, the fourth does
+pub fourth_fails : (f : ℕ → Bool) → some f ≡ true → ((k : ℕ) → k < 3 → f k ≡ false) → f 3 ≡ true
+fourth_fails f h e = rw (e 0 (omega arith), e 1 (omega arith), e 2 (omega arith)) at h
+
+pub member_fails : (s : Side) (t : Recipe) (above : Option ℕ) (i : ℕ) → member s t above i ≡ true → some (fails s t above (state_of i)) ≡ true
+member_fails s t above i h = (and_split (can_be s t (i / 4)) (some (fails s t above (state_of i))) h).1
+
+pub member_can_be : (s : Side) (t : Recipe) (above : Option ℕ) (i : ℕ) → member s t above i ≡ true → can_be s t (i / 4) ≡ true
+member_can_be s t above i h = (and_split (can_be s t (i / 4)) (some (fails s t above (state_of i))) h).0
+
+-- ---- the whole walk
+
+module _ (s : Side) (t : Recipe) (rounds : Rounds) (j i : ℕ) (r : Step) (left right : ℕ) (z : Stepped s t rounds j i r) where
+  pub ends_there : r.leads ≡ None → left ≡ run 1 (r.pair / 2) 0 → right ≡ run 1 (r.pair % 2) 0 → Refuted s t j i left right
+  ends_there e u v =
+      let f = subst (Goes s t rounds j i r.pair r.places) e z.1 in
       let h : r.pair < 4 = z.0 in
-      let f = subst (Goes tables rounds j i r.pair) e z.1 in
+      let k : 1 + j ≡ suc j = omega arith in
       record {
-        left_fits = omega (arith, pow-suc 2 j, pow_pos j);
-        right_fits = omega (arith, pow-suc 2 j, pow_pos j);
-        fails = λ s t known. rw (u, v) (f s t known 0 0);
+        left_fits = rw (u, sym k) (run_lt 0 1 j (r.pair / 2) (omega arith) (pow_pos j));
+        right_fits = rw (v, sym k) (run_lt 0 1 j (r.pair % 2) (omega arith) (pow_pos j));
+        fails = rw (u, v) (f.1 0 0);
       }
+
+  module _ (m : ℕ) (e : r.leads ≡ Some m) where
+    pub on_from : Goes s t rounds j i r.pair r.places (Some m)
+    on_from = subst (Goes s t rounds j i r.pair r.places) e z.1
+
+    -- there is room below the word of the places above
+    pub fits_above : j < 64 → (l : ℕ) → l < 2 ^ suc (j - r.places) → l < 2 ^ (64 - r.places)
+    fits_above h l k = lt_of_lt_of_le k (pow_mono {i = suc (j - r.places)} {j = 64 - r.places} (omega (arith, on_from.1)))
+
+    pub goes_on : (l q : ℕ) → Refuted s t (j - r.places) m l q → left ≡ run r.places (r.pair / 2) l → right ≡ run r.places (r.pair % 2) q
+        → Refuted s t j i left right
+    goes_on l q w u v =
+        let h : r.pair < 4 = z.0 in
+        let k : r.places + suc (j - r.places) ≡ suc j = omega (arith, on_from.1) in
+        record {
+          left_fits = rw u (subst (λ (x : ℕ). run r.places (r.pair / 2) l < 2 ^ x) k (run_lt l r.places (suc (j - r.places)) (r.pair / 2) (omega arith) w.left_fits));
+          right_fits = rw v (subst (λ (x : ℕ). run r.places (r.pair % 2) q < 2 ^ x) k (run_lt q r.places (suc (j - r.places)) (r.pair % 2) (omega arith) w.right_fits));
+          fails = rw (u, v) (on_from.3 l q w.fails);
+        }

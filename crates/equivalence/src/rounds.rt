@@ -1,9 +1,10 @@
 // The sets of failing states, from the top place down: a bit for each of the 64 states.
-ghost use Rattle.std.specs.Prelude.{◌≡◌, ◌+◌, ◌*◌, ◌^◌, ◌<◌, length, get_or};
-ghost use Rattle.bits.specs.Bits.{num};
+ghost use Rattle.std.specs.Prelude.{◌≡◌, true, ◌*◌, ◌^◌, ◌≤◌, ◌<◌};
 ghost use Rattle.equivalence.specs.Sets as S;
+ghost use Rattle.equivalence.specs.States as T;
 
-use crate::moves::Tables;
+use crate::groups;
+use crate::sides::Sides;
 
 // The sets with 1, 2, .. places to go, up to sets[last]; from there on they are all the same.
 // Kept: an array with an index beside it, since there is no heap here. The index is no count of what stands in the array: from it on there
@@ -14,67 +15,83 @@ pub struct Rounds {
     pub last: usize,
 }
 
-// Whether an entry of a table fails: at once, or by leading into the set.
-#[tactic(auto, unfolding(crate::specs::Sets::fails))]
-pub fn fails(table: &[u8], at: usize, set: u64) -> bool
-    requires { at < length table.now }
-    ensures { result ≡ S.fails set (get_or table.now at 0) }
+// Of the four states of a group those that fail by a pair of bits.
+#[tactic(auto, using(crate::proofs::Places::place_shown, crate::proofs::Places::orders_lt, crate::proofs::States::memory_lt))]
+pub fn group_by_pair(sides: &Sides, above: Option<u64>, g: usize, pair: usize) -> u64
+    requires { (g < 16) × (T.can_be sides.now.source.side (S.recipe sides.now) g ≡ true) × (pair < 4) }
+    ensures { (result ≡ S.group_by_pair sides.now.source.side (S.recipe sides.now) above g pair) × (result < 16) }
 {
-    let m = table[at];
-    if 64 <= m {
-        return true;
-    }
-    bits::bit(set, m as u32)
+    let u = sides.source.at(g / 4, pair);
+    let v = sides.target.at(g % 4, pair);
+    groups::group_by(above, u, v)
 }
 
-// Whether a state fails by some pair of bits.
-// Kept: `i < 64` is asked of a state's number, which is a loop's index here and a byte of a table elsewhere. A type would be packed at each.
-// Kept: the four written out. `(0..4).any(..)` is proved too, by an answer, but with it right rules took 3.5% longer at width 64 (244,100
-// verdicts a second and not 252,700), and all rules, most of them wrong, 1.7% less.
-fn some_fails(table: &[u8; 256], set: u64, i: usize) -> bool
-    requires { i < 64 }
-    ensures { result ≡ S.some_fails table.now set i }
+// Those that fail by some pair of bits.
+fn group_at(sides: &Sides, above: Option<u64>, g: usize) -> u64
+    requires { (g < 16) × (T.can_be sides.now.source.side (S.recipe sides.now) g ≡ true) }
+    ensures { (result ≡ S.group_at sides.now.source.side (S.recipe sides.now) above g) × (result < 16) }
 {
-    let at = 4 * i;
-    fails(table, at, set)
-        | (fails(table, at + 1, set) | (fails(table, at + 2, set) | fails(table, at + 3, set)))
+    group_by_pair(sides, above, g, 0)
+        | (group_by_pair(sides, above, g, 1)
+            | (group_by_pair(sides, above, g, 2) | group_by_pair(sides, above, g, 3)))
 }
 
-fn placed(b: bool, i: usize) -> u64
-    requires { i < 64 }
-    ensures { result ≡ num b * 2 ^ i }
+#[tactic(auto, using(crate::proofs::Sets::placed_there))]
+fn placed(word: u64, at: usize) -> u64
+    requires { (word < 2 ^ 16) × (at ≤ 48) }
+    ensures { result ≡ word * 2 ^ at }
 {
-    u64::from(b) << i
+    word << at
 }
 
-// The states that fail by some pair of bits.
-#[tactic(auto, using(crate::proofs::Sets::round_start, crate::proofs::Sets::round_next, crate::proofs::Sets::round_fits, crate::proofs::Sets::round_done))]
-fn round(table: &[u8; 256], set: u64) -> u64
-    ensures { result ≡ S.round table.now set }
+// The states that fail, of those in which the source remembers p.
+#[inline(always)]
+#[tactic(auto, using(crate::proofs::Memories::few, crate::proofs::Sets::within, crate::proofs::Sets::row_start, crate::proofs::Sets::row_next, crate::proofs::Sets::row_fits))]
+fn row(sides: &Sides, above: Option<u64>, p: usize) -> u64
+    requires { p < sides.now.source.memories }
+    ensures { (result ≡ S.row_at sides.now.source.side (S.recipe sides.now) above p) × (result < 2 ^ 16) }
 {
     let mut failing: u64 = 0;
-    for i in 0..64 {
-        failing += placed(some_fails(table, set, i), i);
+    for q in 0..sides.target.memories {
+        failing += placed(group_at(sides, above, 4 * p + q), 4 * q);
+    }
+    failing
+}
+
+// The states that fail at a place, or from the place above if it is not the top one.
+// It is put in place where it is called, so that it is not asked again for each pair of bits which of the two it is.
+#[inline(always)]
+#[tactic(auto, using(crate::proofs::Memories::few, crate::proofs::Sets::round_start, crate::proofs::Sets::round_next, crate::proofs::Sets::round_fits, crate::proofs::Sets::round_done))]
+fn round(sides: &Sides, above: Option<u64>) -> u64
+    ensures { result ≡ S.round sides.now.source.side (S.recipe sides.now) above }
+{
+    let mut failing: u64 = 0;
+    for p in 0..sides.source.memories {
+        failing += placed(row(sides, above, p), 16 * p);
     }
     failing
 }
 
 // A set follows from the one before it alone, so one that repeats stays.
-#[tactic(auto, using(crate::proofs::Places::filled, crate::proofs::Sets::stable), unfolding(crate::specs::Sets::failing))]
-pub fn failing_sets(tables: &Tables, k: usize) -> Rounds
+#[tactic(auto, using(crate::proofs::Filled::filled, crate::proofs::Sets::stable), unfolding(crate::specs::Sets::failing))]
+pub fn failing_sets(sides: &Sides, k: usize) -> Rounds
     requires { k < 64 }
-    ensures { S.Kept tables.now k result }
+    ensures { S.Kept sides.now.source.side (S.recipe sides.now) k result }
 {
-    let mut sets = [0u64; 64];
-    let mut set = round(&tables.tops, 0);
-    sets[0] = set;
+    let mut rounds = Rounds {
+        sets: [0; 64],
+        last: k,
+    };
+    let mut set = round(sides, None);
+    rounds.sets[0] = set;
     for j in 0..k {
-        let lower = round(&tables.moves, set);
+        let lower = round(sides, Some(set));
         if lower == set {
-            return Rounds { sets, last: j };
+            rounds.last = j;
+            return rounds;
         }
-        sets[j + 1] = lower;
+        rounds.sets[j + 1] = lower;
         set = lower;
     }
-    Rounds { sets, last: k }
+    rounds
 }

@@ -6,18 +6,17 @@ use Rattle.binding.specs.Right.{RightFor, Agrees}
 use Rattle.binding.specs.declared.Side.{Side}
 use Rattle.binding.specs.declared.Recipe.{Recipe}
 use Rattle.equivalence.specs.Sets.{failing, Refuted}
-use Rattle.equivalence.specs.declared.moves.Tables.{Tables}
 use Rattle.search.specs.declared.Counterexample.{Counterexample}
 
 -- a start state does not fail, or operands at which the recipe fails from it, with its carry
-abbrev pub ConcludedFrom : Tables → ℕ → ℕ → Bool → Option Counterexample → Type 0
-ConcludedFrom tables k start carry None = bit (failing tables k) start ≡ false
-ConcludedFrom tables k start carry (Some x) = (x.carry ≡ carry) × Refuted tables k start x.left x.right
+abbrev pub ConcludedFrom : Side → Recipe → ℕ → ℕ → Bool → Option Counterexample → Type 0
+ConcludedFrom s t k start carry None = bit (failing s t k) start ≡ false
+ConcludedFrom s t k start carry (Some x) = (x.carry ≡ carry) × Refuted s t k start x.left x.right
 
 -- neither start state fails, or operands at which the recipe fails
-abbrev pub Concluded : Tables → ℕ → ℕ → ℕ → Option Counterexample → Type 0
-Concluded tables k plain carried None = (bit (failing tables k) plain ≡ false) × (bit (failing tables k) carried ≡ false)
-Concluded tables k plain carried (Some x) = Refuted tables k (if x.carry then carried else plain) x.left x.right
+abbrev pub Concluded : Side → Recipe → ℕ → ℕ → ℕ → Option Counterexample → Type 0
+Concluded s t k plain carried None = (bit (failing s t k) plain ≡ false) × (bit (failing s t k) carried ≡ false)
+Concluded s t k plain carried (Some x) = Refuted s t k (if x.carry then carried else plain) x.left x.right
 
 -- what is found
 abbrev pub Found : Side → Recipe → ℕ → Option Counterexample → Type 0

@@ -1,16 +1,16 @@
-// The search for operands at which a recipe fails: the machine's tables, the sets of failing states, and from a start state that is in
-// the set of the lowest place a walk to operands.
+// The search for operands at which a recipe fails: what both sides show at a place, the sets of failing states, and from a start state that
+// is in the set of the lowest place a walk to operands.
 #![tactic(auto)]
 
-ghost use Rattle.std.specs.Prelude.{◌≡◌, ◌<◌};
+ghost use Rattle.std.specs.Prelude.{◌<◌};
 ghost use Rattle.equivalence.specs.Sets as F;
 ghost use Rattle.search.specs.Search as S;
 
 use binding::{Recipe, Side};
 use bits::Width;
-use equivalence::moves::{self, Tables};
 use equivalence::rounds::{self, Rounds};
-use equivalence::witness;
+use equivalence::sides::{self, Sides};
+use equivalence::{numbers, witness};
 
 // Operands and a carry at which a recipe does not show what a source side shows.
 // Kept: two words, put together bit by bit by a walk that counts places and has no width; `bits::Operands` carries one.
@@ -23,19 +23,19 @@ pub struct Counterexample {
 
 // From the start state with a carry or without, with k + 1 places to go.
 fn refuted(
-    tables: &Tables,
+    sides: &Sides,
     rounds: &Rounds,
     k: usize,
-    start: u8,
+    start: usize,
     carry: bool,
 ) -> Option<Counterexample>
-    requires { (k < 64) × (start < 64) × F.Kept tables.now k rounds.now }
-    ensures { S.ConcludedFrom tables.now k start carry result }
+    requires { (k < 64) × (start < 64) × F.Kept sides.now.source.side (F.recipe sides.now) k rounds.now }
+    ensures { S.ConcludedFrom sides.now.source.side (F.recipe sides.now) k start carry result }
 {
     if !bits::bit(rounds.sets[rounds.last], start as u32) {
         return None;
     }
-    let w = witness::walk(tables, rounds, k, start as usize);
+    let w = witness::walk(sides, rounds, k, start);
     Some(Counterexample {
         left: w.left,
         right: w.right,
@@ -44,23 +44,23 @@ fn refuted(
 }
 
 // From the start states without and with a carry, with k + 1 places to go.
-fn decide(tables: &Tables, k: usize, plain: u8, carried: u8) -> Option<Counterexample>
+fn decide(sides: &Sides, k: usize, plain: usize, carried: usize) -> Option<Counterexample>
     requires { (k < 64) × (plain < 64) × (carried < 64) }
-    ensures { S.Concluded tables.now k plain carried result }
+    ensures { S.Concluded sides.now.source.side (F.recipe sides.now) k plain carried result }
 {
-    let rounds = rounds::failing_sets(tables, k);
-    if let Some(found) = refuted(tables, &rounds, k, plain, false) {
+    let rounds = rounds::failing_sets(sides, k);
+    if let Some(found) = refuted(sides, &rounds, k, plain, false) {
         return Some(found);
     }
-    refuted(tables, &rounds, k, carried, true)
+    refuted(sides, &rounds, k, carried, true)
 }
 
 // Nothing where the recipe shows what the source side shows at all operands and both carries.
 pub fn search(s: Side, t: Recipe, width: Width) -> Option<Counterexample>
     ensures { S.Found s t width.n result }
 {
-    let tables = moves::tabulate(s, t);
-    let plain = moves::index_of(automaton::first(s, t, false));
-    let carried = moves::index_of(automaton::first(s, t, true));
-    decide(&tables, (width.n - 1) as usize, plain, carried)
+    let sides = sides::sides_of(s, t);
+    let plain = numbers::index_of(automaton::first(s, t, false));
+    let carried = numbers::index_of(automaton::first(s, t, true));
+    decide(&sides, (width.n - 1) as usize, plain, carried)
 }

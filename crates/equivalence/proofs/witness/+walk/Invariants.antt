@@ -1,4 +1,4 @@
--- `equivalence::witness::walk` calls itself with one place less to go.
+-- `equivalence::witness::walk` calls itself with fewer places to go.
 use Rattle.equivalence.proofs.witness.+walk.Given as goal
 
 abbrev pub decreases-walk : goal.decreases-walk
