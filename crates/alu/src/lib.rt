@@ -57,6 +57,9 @@ pub fn is_width(n: u32) -> bool
     (1..=WIDEST).contains(&n)
 }
 
+// The kinds of the functions, by number; 0 is none. LIMPL and RIMPL are those of Table 2.
+// Kept: a function is its number wherever words and the C interface hold one, and this table is where it is read. An enum of 27 would be
+// made from the number and turned back at each word.
 const FUNCTION_KINDS: [Kind; 28] = [
     Kind::Logic(0),
     Kind::Arithmetic {
@@ -132,9 +135,7 @@ const FUNCTION_KINDS: [Kind; 28] = [
     },
 ];
 
-// The kind of a function, by its number. LIMPL and RIMPL are those of Table 2.
-// Kept: a function is its number wherever words and the C interface hold one, and this table is where it is read. An enum of 27 would be
-// made from the number and turned back at each word.
+// The kind of a function, by its number.
 pub fn function_of(number: u32) -> Kind
     ensures { result ≡ F.function_of number }
 {

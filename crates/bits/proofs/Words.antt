@@ -6,6 +6,7 @@ use mathlib.Core.Bool.{beq}
 use lib.Pow.{high, mod-pow-add, ones_split, ones_lt}
 use Rattle.words.proofs.Choices.{and_split, and_join, beq-true, beq-refl}
 use Rattle.bits.specs.Bits.{num, bit, top, word}
+use Rattle.bits.specs.Wiring.{complement}
 
 -- 2 ^ suc k, for omega
 pub pow2 : (k : ℕ) → 2 ^ suc k ≡ 2 ^ k + 2 ^ k
@@ -113,6 +114,12 @@ word-not (suc n) f = go (f n) (word-not n f) (word_lt n f)
         → word n (λ i. not (f i)) + num (not x) * 2 ^ n ≡ 2 ^ suc n - 1 - (word n f + num x * 2 ^ n)
     go true e h = omega (arith, pow2 n)
     go false e h = omega (arith, pow2 n)
+
+pub not_bit : (n a k : ℕ) → a < 2 ^ n → k < n → bit (complement n a) k ≡ not (bit a k)
+not_bit n a k h l =
+    ap (λ (x : ℕ). bit (2 ^ n - 1 - x) k) (sym (word-bits n a h))
+    ∙ ap (λ (x : ℕ). bit x k) (sym (word-not n (bit a)))
+    ∙ bit_word n (λ i. not (bit a i)) k l
 
 pub word_ones : (n : ℕ) → word n (λ i. true) ≡ 2 ^ n - 1
 word_ones n = word-not n (λ i. false) ∙ ap (λ (x : ℕ). 2 ^ n - 1 - x) (word-zeros n) ∙ omega arith

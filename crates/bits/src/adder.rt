@@ -1,6 +1,6 @@
 // "O0 is the sum modulo 2^n, wrapping at every width, 64 included": a wrapping add of u64 operands and carry, cut to the width
 // below 64, with the carry out recovered from the wrapped sum.
-ghost use Rattle.std.specs.Prelude.{◌≡◌, ◌+◌, ◌%◌, ◌^◌, ◌<◌, ◌&&◌, nat_le, nat_lt, if◌then◌else◌};
+ghost use Rattle.std.specs.Prelude.{◌≡◌, ◌+◌, ◌<◌, ◌&&◌, nat_le, nat_lt, if◌then◌else◌};
 ghost use Rattle.std.specs.Bool.{beq};
 ghost use Rattle.bits.specs.Bits as B;
 ghost use Rattle.bits.specs.Sum as S;

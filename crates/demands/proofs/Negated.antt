@@ -12,8 +12,7 @@ use Rattle.words.proofs.Choices.{and_join, beq-true, beq-refl}
 use Rattle.bits.specs.Bits.{top, bit}
 use Rattle.bits.specs.Wiring.{complement, wired, carried}
 use Rattle.bits.specs.declared.Ports.{Ports}
-use Rattle.bits.proofs.Words.{word-zeros, top-word}
-use Rattle.usage.proofs.Bits.{not_bit}
+use Rattle.bits.proofs.Words.{word-zeros, not_bit, top-word}
 use Rattle.alu.specs.Function.{function_of, ports}
 use Rattle.alu.proofs.Shown.{ports_lt}
 use Rattle.words.proofs.Fields.{field_lt}

@@ -1,7 +1,8 @@
 -- The sets of failing states: how a round makes one, that one which repeats stays, and that a state outside it agrees at all operands.
 use mathlib.Core.Path.{◌≡◌, refl, sym, ap, ap₂, ◌∙◌}
 use Prim.Native.Nat.{ℕ, zero, suc, ◌+◌, ◌-◌, ◌*◌, ◌/◌, ◌%◌, ◌^◌, ◌≤◌, ◌<◌}
-use native.Mathlib.Nat.{lt_of_lt_of_le}
+use native.Mathlib.Nat.{lt_of_lt_of_le, mul-suc}
+use native.Mathlib.Numerals.{add-one}
 use native.Mathlib.Omega.{arith}
 use mathlib.Core.Bool.{Bool, true, false, not, ◌&&◌, ◌||◌, true≢false}
 use lib.Bits.{bit_or}
@@ -53,6 +54,18 @@ no_target : (a b c : Bool) → b ≡ false → (a && b) && c ≡ false
 no_target true b c h = rw h refl
 no_target false b c h = refl
 
+-- ---- blocks of a word, laid one above another: groups in a row, rows in a round
+
+module _ (size : ℕ) (f : ℕ → Bool) where
+  laid_next : (w b x q : ℕ) → w ≡ word (size * q) f → x ≡ word size (λ k. f (size * q + k)) → b ≡ x * 2 ^ (size * q)
+      → w + b ≡ word (size * (q + 1)) f
+  laid_next w b x q e v u =
+      ap₂ ◌+◌ e (u ∙ ap (λ (z : ℕ). z * 2 ^ (size * q)) v)
+      ∙ above_word (size * q) size f ∙ ap (λ (k : ℕ). word k f) (sym (ap (λ (k : ℕ). size * k) (add-one q) ∙ mul-suc size q))
+
+  laid_fits : (w q : ℕ) → w ≡ word (size * q) f → size * q ≤ 64 → w < 2 ^ 64
+  laid_fits w q e h = rw e (lt_of_lt_of_le (word_lt (size * q) f) (pow_mono {i = size * q} {j = 64} h))
+
 -- ---- the groups in which the source remembers p
 
 module _ (s : Side) (t : Recipe) (above : Option ℕ) (p : ℕ) where
@@ -67,17 +80,17 @@ module _ (s : Side) (t : Recipe) (above : Option ℕ) (p : ℕ) where
       let r : (4 * p + q) % 4 ≡ q = omega arith in
       rw (e, r, lt-ltb p (memories s.kind) h) (lt-ltb q (memories t.target.kind) l)
 
+  -- the group is what the row has there
+  group_there : (q : ℕ) → group_at s t above (4 * p + q) ≡ word 4 (λ k. of_row s t above p (4 * q + k))
+  unfolding group_at of_row
+  group_there q = word-ext 4 _ _ (λ k h. let i : 4 * (4 * p + q) + k ≡ 16 * p + (4 * q + k) = omega arith in ap (member s t above) i)
+
   module _ (w b x q : ℕ) (e : w ≡ word (4 * q) (of_row s t above p)) (v : x ≡ group_at s t above (4 * p + q)) (u : b ≡ x * 2 ^ (4 * q)) where
     pub row_next : w + b ≡ word (4 * (q + 1)) (of_row s t above p)
-    unfolding group_at of_row
-    row_next =
-        let n : 4 * q + 4 ≡ 4 * (q + 1) = omega arith in
-        let g : group_at s t above (4 * p + q) ≡ word 4 (λ k. of_row s t above p (4 * q + k)) =
-        word-ext 4 _ _ (λ k h. let i : 4 * (4 * p + q) + k ≡ 16 * p + (4 * q + k) = omega arith in ap (member s t above) i) in
-        ap₂ ◌+◌ e (u ∙ ap (λ (z : ℕ). z * 2 ^ (4 * q)) (v ∙ g)) ∙ above_word (4 * q) 4 (of_row s t above p) ∙ ap (λ (k : ℕ). word k (of_row s t above p)) n
+    row_next = laid_next 4 (of_row s t above p) w b x q e (v ∙ group_there q) u
 
     pub row_fits : q < 4 → w + b < 2 ^ 64
-    row_fits h = rw row_next (lt_of_lt_of_le (word_lt (4 * (q + 1)) (of_row s t above p)) (pow_mono {i = 4 * (q + 1)} {j = 64} (omega arith)))
+    row_fits h = laid_fits 4 (of_row s t above p) (w + b) (q + 1) row_next (omega arith)
 
   pub row_done : (w q : ℕ) → w ≡ word (4 * q) (of_row s t above p) → q ≡ memories t.target.kind → w ≡ row_at s t above p
   unfolding row_at of_row
@@ -103,13 +116,10 @@ module _ (s : Side) (t : Recipe) (above : Option ℕ) (w b x p : ℕ)
     (e : w ≡ word (16 * p) (member s t above)) (v : x ≡ row_at s t above p) (u : b ≡ x * 2 ^ (16 * p)) where
   pub round_next : w + b ≡ word (16 * (p + 1)) (member s t above)
   unfolding row_at of_row
-  round_next =
-      let n : 16 * p + 16 ≡ 16 * (p + 1) = omega arith in
-      ap₂ ◌+◌ e (u ∙ ap (λ (z : ℕ). z * 2 ^ (16 * p)) v)
-      ∙ above_word (16 * p) 16 (member s t above) ∙ ap (λ (k : ℕ). word k (member s t above)) n
+  round_next = laid_next 16 (member s t above) w b x p e v u
 
   pub round_fits : p < 4 → w + b < 2 ^ 64
-  round_fits h = rw round_next (lt_of_lt_of_le (word_lt (16 * (p + 1)) (member s t above)) (pow_mono {i = 16 * (p + 1)} {j = 64} (omega arith)))
+  round_fits h = laid_fits 16 (member s t above) (w + b) (p + 1) round_next (omega arith)
 
 pub round_done : (s : Side) (t : Recipe) (above : Option ℕ) (w p : ℕ) → w ≡ word (16 * p) (member s t above) → p ≡ memories s.kind → w ≡ round s t above
 unfolding round

@@ -1,9 +1,11 @@
 // Groups of four states, which differ in any and all alone: the one at k says by the low bit of k whether any bit of the target's O0 is 1,
 // and by the high one whether all are. What fails of a group at a place follows from what both sides show there.
-ghost use Rattle.std.specs.Prelude.{◌≡◌, ◌<◌};
+ghost use Rattle.std.specs.Prelude.{◌≡◌, true, ◌<◌};
 ghost use Rattle.equivalence.specs.Sets as S;
+ghost use Rattle.equivalence.specs.States as T;
 
 use crate::shown::{Shown, group_of};
+use crate::sides::Sides;
 
 // What becomes of any and all at a bit of the target's O0.
 fn after(bit: bool, k: usize) -> usize
@@ -37,7 +39,7 @@ fn all_if(differs: bool) -> u64
 // Kept: all four are joined by an or. A branch is guessed wrong too often: with branches here and at a place of a function verdicts took 7%
 // longer.
 #[tactic(auto, using(crate::proofs::Places::xor_fits, crate::proofs::Places::join_fits))]
-pub fn group_by(above: Option<u64>, u: Shown, v: Shown) -> u64
+fn group_by(above: Option<u64>, u: Shown, v: Shown) -> u64
     requires { (u.memory < 4) × (v.memory < 4) × (u.orders < 16) × (v.orders < 16) }
     ensures { (result ≡ S.group_by above u v) × (result < 16) }
 {
@@ -52,6 +54,17 @@ pub fn group_by(above: Option<u64>, u: Shown, v: Shown) -> u64
             pulled(v.bit, there) | all_if(main)
         }
     }
+}
+
+// The same by a pair of bits.
+#[tactic(auto, using(crate::proofs::Places::place_shown, crate::proofs::Places::orders_lt, crate::proofs::States::memory_lt))]
+pub fn group_by_pair(sides: &Sides, above: Option<u64>, g: usize, pair: usize) -> u64
+    requires { (g < 16) × (T.can_be sides.now.source.side (S.recipe sides.now) g ≡ true) × (pair < 4) }
+    ensures { (result ≡ S.group_by_pair sides.now.source.side (S.recipe sides.now) above g pair) × (result < 16) }
+{
+    let u = sides.source.at(g / 4, pair);
+    let v = sides.target.at(g % 4, pair);
+    group_by(above, u, v)
 }
 
 // Where a state of a group leads, unless O0 differs.

@@ -3,7 +3,7 @@ ghost use Rattle.std.specs.Prelude.{◌≡◌, true, ◌*◌, ◌^◌, ◌≤◌
 ghost use Rattle.equivalence.specs.Sets as S;
 ghost use Rattle.equivalence.specs.States as T;
 
-use crate::groups;
+use crate::groups::group_by_pair;
 use crate::sides::Sides;
 
 // The sets with 1, 2, .. places to go, up to sets[last]; from there on they are all the same.
@@ -13,17 +13,6 @@ use crate::sides::Sides;
 pub struct Rounds {
     pub sets: [u64; 64],
     pub last: usize,
-}
-
-// Of the four states of a group those that fail by a pair of bits.
-#[tactic(auto, using(crate::proofs::Places::place_shown, crate::proofs::Places::orders_lt, crate::proofs::States::memory_lt))]
-pub fn group_by_pair(sides: &Sides, above: Option<u64>, g: usize, pair: usize) -> u64
-    requires { (g < 16) × (T.can_be sides.now.source.side (S.recipe sides.now) g ≡ true) × (pair < 4) }
-    ensures { (result ≡ S.group_by_pair sides.now.source.side (S.recipe sides.now) above g pair) × (result < 16) }
-{
-    let u = sides.source.at(g / 4, pair);
-    let v = sides.target.at(g % 4, pair);
-    groups::group_by(above, u, v)
 }
 
 // Those that fail by some pair of bits.

@@ -3,8 +3,8 @@ ghost use Rattle.std.specs.Prelude.{◌≡◌, true, ◌-◌, ◌/◌, ◌%◌, 
 ghost use Rattle.equivalence.specs.Sets as S;
 ghost use Rattle.equivalence.specs.States as T;
 
-use crate::groups;
-use crate::rounds::{self, Rounds};
+use crate::groups::{self, group_by_pair};
+use crate::rounds::Rounds;
 use crate::sides::Sides;
 
 // Kept: two words put together bit by bit, before a width is at hand; `bits::Operands` carries one.
@@ -28,10 +28,7 @@ fn fails(sides: &Sides, above: Option<u64>, i: usize, pair: usize) -> bool
     requires { (i < 64) × (T.can_be sides.now.source.side (S.recipe sides.now) (i / 4) ≡ true) × (pair < 4) }
     ensures { result ≡ S.fails sides.now.source.side (S.recipe sides.now) above (T.state_of i) pair }
 {
-    bits::bit(
-        rounds::group_by_pair(sides, above, i / 4, pair),
-        (i % 4) as u32,
-    )
+    bits::bit(group_by_pair(sides, above, i / 4, pair), (i % 4) as u32)
 }
 
 // Of the four pairs of bits the first that fails: where none of three does, the fourth.

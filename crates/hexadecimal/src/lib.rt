@@ -1,7 +1,7 @@
 // Words written as text, one byte at a time.
 #![tactic(auto)]
 
-ghost use Rattle.std.specs.Prelude.{◌≡◌, ◌≤◌};
+ghost use Rattle.std.specs.Prelude.{◌≡◌};
 ghost use Rattle.hexadecimal.specs.Hex as T;
 
 // The digits of a word so far, their value, and whether this is in a comment.

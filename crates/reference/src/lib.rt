@@ -10,7 +10,7 @@ mod comparison;
 pub mod evaluator;
 mod logic;
 pub mod negated;
-pub mod places;
+mod places;
 pub mod recipe;
 pub mod refusal;
 pub mod trial;

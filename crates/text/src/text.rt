@@ -1,5 +1,5 @@
 // A text put together in place: bytes, names and numbers put behind what stands so far.
-ghost use Rattle.std.specs.Prelude.{◌≡◌, ◌+◌, ◌*◌, ◌≤◌, ◌++◌, [], length};
+ghost use Rattle.std.specs.Prelude.{◌≡◌, ◌+◌, ◌≤◌, ◌++◌, [], length};
 ghost use Rattle.text.specs.Text as T;
 
 use std::marker::Model;

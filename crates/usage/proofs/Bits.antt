@@ -1,17 +1,16 @@
--- The bits of a joined set, of what two sets share, of a complement, and of the set of one bit.
+-- The bits of a joined set, of what two sets share, and of the set of one bit.
 use mathlib.Core.Path.{◌≡◌, refl, sym, ap, ◌∙◌}
-use Prim.Native.Nat.{ℕ, zero, suc, ◌-◌, ◌*◌, ◌/◌, ◌%◌, ◌^◌, ◌≤◌, ◌<◌}
+use Prim.Native.Nat.{ℕ, zero, suc, ◌*◌, ◌/◌, ◌%◌, ◌^◌, ◌≤◌, ◌<◌}
 use native.Mathlib.Nat.{div-eq_of_lt, zero-lt-suc, zero-div, pow-suc, mul-div_cancel, one-mul}
 use native.Mathlib.Numerals.{one-add}
 use native.Mathlib.Omega.{arith}
-use mathlib.Core.Bool.{Bool, true, false, not, ◌&&◌, ◌||◌}
+use mathlib.Core.Bool.{Bool, true, false, ◌&&◌, ◌||◌}
 use lib.Bits.{bit_or, or_shr, or_mod, bit_and, and_shr, and_mod}
 use lib.Dec.{eqb, eqb-zero-suc, eqb-suc-zero, eqb-suc-suc}
 use lib.Pow.{shr-shr, shl_exact, pow_mono}
 use Rattle.words.specs.Field.{field}
 use Rattle.bits.specs.Bits.{num, bit}
-use Rattle.bits.specs.Wiring.{complement}
-use Rattle.bits.proofs.Words.{num-bit, word-bits, word-not, bit_word}
+use Rattle.bits.proofs.Words.{num-bit}
 
 -- a bit of two numbers taken together digit by digit
 module _ (op : ℕ → ℕ → ℕ) (shr : (a b k : ℕ) → op a b / 2 ^ k ≡ op (a / 2 ^ k) (b / 2 ^ k))
@@ -41,12 +40,6 @@ and_bit = bit_by bit_and and_shr and_mod (λ x y. x && y) digits
     digits true true = refl
     digits true false = refl
     digits false y = refl
-
-pub not_bit : (n a k : ℕ) → a < 2 ^ n → k < n → bit (complement n a) k ≡ not (bit a k)
-not_bit n a k h l =
-    ap (λ (x : ℕ). bit (2 ^ n - 1 - x) k) (sym (word-bits n a h))
-    ∙ ap (λ (x : ℕ). bit x k) (sym (word-not n (bit a)))
-    ∙ bit_word n (λ i. not (bit a i)) k l
 
 pub or_field : (a b at size : ℕ) → field (bit_or a b) at size ≡ bit_or (field a at size) (field b at size)
 or_field a b at size = ap (λ (x : ℕ). x % 2 ^ size) (or_shr a b at) ∙ or_mod (a / 2 ^ at) (b / 2 ^ at) size

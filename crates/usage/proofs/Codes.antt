@@ -14,7 +14,8 @@ use Rattle.bits.specs.Wiring.{complement}
 use Rattle.recipe.specs.Fields.{from_scratch, vector_of, fields_of}
 use Rattle.recipe.specs.declared.Fields.{Fields}
 use Rattle.usage.specs.Sets.{code_bit, target_usage, scratch_usage, usage_of}
-use Rattle.usage.proofs.Bits.{bit-zero, not_bit, pow_bit}
+use Rattle.bits.proofs.Words.{not_bit}
+use Rattle.usage.proofs.Bits.{bit-zero, pow_bit}
 
 -- parts laid side by side
 abbrev laid : ℕ → ℕ → ℕ → ℕ → ℕ → ℕ → ℕ

@@ -69,7 +69,7 @@ abbrev pub unless : Option Fault → Sentence → Sentence
 unless (Some fault) next = Refuses (refusal fault 0)
 unless None next = next
 
--- request #105: whether the word's target is negated, 1 or 0
+-- request #105: a mark is 0 or 1, and 1 where the word's target is negated
 abbrev pub is_mark : ℕ → Bool
 is_mark mark = ltb mark 2
 

@@ -9,7 +9,7 @@ use lib.ListN.{length, drop, get_or, drop_of_length-le, length-append, get_or-ap
 use lib.Seq.{get_or-append-add}
 use borrow.Author.Tests.{le-ltb}
 use Rattle.words.specs.Field.{field, content_of, target_function}
-use Rattle.words.specs.Kinds.{HEADER, PRICES, SOURCE, TARGET}
+use Rattle.words.specs.Kinds.{HEADER, PRICES}
 use Rattle.words.specs.declared.kind.WordKind.TheVariants.{Source, Target}
 use Rattle.sequence.specs.Limits.{most_sources, most_targets}
 use Rattle.reader.specs.Starts.{rules_start}

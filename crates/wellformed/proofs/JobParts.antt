@@ -76,7 +76,7 @@ module _ (s : State) (w : ℕ) where
         in_sequence_lem = rw k (and_join (one_of_two (stage_of s) SOURCE a b) (lt-ltb s.targets most_targets few));
         layout =
             sym (by_kind AsJob w Target k)
-            ∙ and_join (lt-ltb (content_of w) (2 ^ 6) r.to_mark) (is_function_lem (target_function w) r.least r.most);
+            ∙ and_join (lt-ltb (content_of w) (2 ^ 6) r.up_to_mark) (is_function_lem (target_function w) r.least r.most);
         order = order;
         outputs = no_outputs w TARGET k refl;
       }

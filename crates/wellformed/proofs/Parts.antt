@@ -29,7 +29,7 @@ pub record SourceWord (w : ℕ) : Type 0 where
 -- a target word: a function's number, and a mark above it
 pub record TargetWord (w : ℕ) : Type 0 where
   pub kind_is : kind_of w ≡ TARGET
-  pub to_mark : content_of w < 2 ^ 6
+  pub up_to_mark : content_of w < 2 ^ 6
   pub least : 1 ≤ target_function w
   pub most : target_function w ≤ 27
 

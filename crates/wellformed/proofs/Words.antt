@@ -86,7 +86,7 @@ module _ (file : File) (s : State) (w : ℕ) (g : Faultless file s w) where
   target_word e =
       let parts = and_split (ltb (content_of w) (2 ^ 6)) (is_function (target_function w)) (by_kind file w Target e ∙ g.layout) in
       let r = in_range_lem (target_function w) parts.1 in
-      record { kind_is = e; to_mark = ltb-true (content_of w) (2 ^ 6) parts.0; least = r.0; most = r.1 }
+      record { kind_is = e; up_to_mark = ltb-true (content_of w) (2 ^ 6) parts.0; least = r.0; most = r.1 }
 
   recipe_word : (k : ℕ) → kind_of w ≡ k → is_recipe k ≡ true → laid_out w ≡ fits file w → RecipeWord k w
   recipe_word k e r f =
