@@ -4,7 +4,6 @@
 ghost use Rattle.std.specs.Prelude.{◌≡◌, ◌≤◌, length, take};
 ghost use Rattle.arguments.specs.Arguments as W;
 
-use console::Failed;
 use std::env::FillError;
 use std::rt::Env;
 
@@ -85,19 +84,20 @@ fn asks_help(rt: &HostRuntime) -> bool {
     is_help(argument.as_bytes())
 }
 
-// Prints how a program is called, and the rest of the help.
-fn print_help(rt: &HostRuntime, usage: &[u8], help: &[u8]) -> Result<(), Failed> {
-    console::print(rt, usage)?;
-    console::print(rt, help)
+// Prints the parts of a help. A part that cannot be printed is said, and the next is tried.
+fn print_help(rt: &HostRuntime, help: &[&[u8]]) {
+    for part in help {
+        let _ = console::print(rt, part);
+    }
 }
 
 // Whether a program is to run, by how many arguments it was called with, its own name among them. If not, it is said how it is called: on
-// standard output with the rest of the help that was asked for, or on standard error.
-pub fn may_run(rt: &HostRuntime, fewest: usize, most: usize, usage: &[u8], help: &[u8]) -> bool
+// standard output by the parts of the help that was asked for, or on standard error.
+pub fn may_run(rt: &HostRuntime, fewest: usize, most: usize, usage: &[u8], help: &[&[u8]]) -> bool
     ensures { W.MayRun fewest most result }
 {
     if asks_help(rt) {
-        let _ = print_help(rt, usage, help);
+        print_help(rt, help);
         return false;
     }
     let count = count(rt);

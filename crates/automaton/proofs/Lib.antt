@@ -1,2 +1,3 @@
+pub mod Codes
 pub mod Sides
 pub mod Runs

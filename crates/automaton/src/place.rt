@@ -8,6 +8,7 @@ use alu::Kind;
 
 // A wiring code on one bit of each operand. The rest of the code chooses the bit, its low bit complements it.
 // Kept: no array is indexed, as `bits::carried` does: a verdict wires some fifty bits, and by an array it took 3% longer, of right rules 5%.
+#[tactic(auto, using(crate::proofs::Codes::wire_by_arithmetic))]
 pub fn wire(code: u32, x: bool, y: bool) -> bool
     ensures { result ≡ P.wire code x y }
 {

@@ -20,7 +20,7 @@ use Rattle.soundness.specs.Sound.{sources_on, targets_on, rule_fault}
 use Rattle.bench.specs.Calls.{sound_bench, holding, gives, in_tables, entry_for, has_binding, bound_at, table_check, bind_check, claim_on, bind_of, Binds}
 use Rattle.bench.specs.declared.Bench.{Bench}
 use Rattle.bench.specs.declared.CallError.TheVariants.{Wrong}
-use Rattle.entries.proofs.Searching.{place_of, lists_entry, entry_there}
+use Rattle.entries.proofs.Searching.{place_of, lists_entry, at_entry}
 
 -- ---- the entry
 
@@ -28,9 +28,8 @@ use Rattle.entries.proofs.Searching.{place_of, lists_entry, entry_there}
 abbrev pub place_for : Bench → ℕ → ℕ
 place_for b f = place_of (sources_on b.tables) f
 
-pub at_place : (b : Bench) (f w : ℕ) → place_for b f < length (sources_on b.tables)
-    → bound_at b (entry_for b f) w ≡ holding b (set b.bound (place_for b f) w)
-at_place b f w h = ap (λ (x : Option ℕ). bound_at b x w) (entry_there (sources_on b.tables) f h)
+pub at_place : (b : Bench) (f w : ℕ) → bound_at b (entry_for b f) w ≡ holding b (set b.bound (place_for b f) w)
+at_place b f w = at_entry (sources_on b.tables) f (λ o i. bound_at b o w ≡ holding b (set b.bound i w)) (λ i. refl) refl
 
 -- a source of the tables has an entry
 pub tables_entry : (b : Bench) (w : ℕ) → in_tables b w ≡ true → place_for b (source_of w) < length (sources_on b.tables)

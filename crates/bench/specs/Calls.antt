@@ -1,6 +1,6 @@
 -- Document 01, "Mapper and bench" and "Refusals that come from the state", and requests #102 and #103: what each call answers, and the
 -- bench afterwards.
-use Rattle.std.specs.Prelude.{ℕ, ◌≡◌, Bool, not, List, [], ◌∷◌, set, replicate, if◌then◌else◌, Option, None, Some, Result, Ok, Err, ⊤}
+use Rattle.std.specs.Prelude.{ℕ, ◌≡◌, Bool, not, List, [], ◌∷◌, length, set, replicate, if◌then◌else◌, Option, None, Some, Result, Ok, Err, ⊤}
 use Rattle.words.specs.Paper.{Paper, refusal, unless_fault, source_place, accepted, told}
 use Rattle.recipe.specs.Fields.{source_of}
 use Rattle.binding.specs.Right.{is_right}
@@ -48,9 +48,9 @@ entry_for b f = entry_of (sources_on b.tables) f
 abbrev pub has_binding : Bench → ℕ → Bool
 has_binding b f = is_bound (sources_on b.tables) b.bound f
 
--- exactly one entry changed, and the count with it
+-- exactly one entry changed, and the count with it; where there is none, the one past the sources
 abbrev pub bound_at : Bench → Option ℕ → ℕ → Bench
-bound_at b None w = b
+bound_at b None w = holding b (set b.bound (length (sources_on b.tables)) w)
 bound_at b (Some i) w = holding b (set b.bound i w)
 
 abbrev pub gives : {A : Type 0} → Bench → Result A CallError → After A

@@ -5,6 +5,7 @@ ghost use Rattle.soundness.specs.Sound as S;
 ghost use Rattle.bench.specs.Calls as C;
 
 use crate::{Bench, CallError, faults};
+use sequence::MOST_SOURCES;
 use soundness::{BoundTables, NOTHING};
 use verdict::Verdict;
 use words::{Fault, Refusal};
@@ -32,15 +33,17 @@ fn bench_of(held: BoundTables, glue: u32) -> Bench
 impl SoundBench {
     ghost use Rattle.bench.specs.Held.{bench_held};
 
-    // The bench with a word, or NOTHING, in the entry of a function's source, and the count of what is bound then.
+    // The bench with a word, or NOTHING, in the entry of a function's source, and the count of what is bound then. Where it is no
+    // source's, the entry past the sources is meant, if there is one.
     fn put(self, function: u32, word: u32) -> Bench
         ensures { result ≡ C.bound_at (bench_held self) (C.entry_for (bench_held self) function) word }
     {
         let mut held = self.held;
-        let Some(entry) = entries::entry_for(held.tables, function) else {
-            return bench_of(held, self.glue);
-        };
-        held.bound[entry] = word;
+        let past = held.tables.terms().sources.len();
+        let entry = entries::entry_for(held.tables, function).unwrap_or(past);
+        if entry < MOST_SOURCES {
+            held.bound[entry] = word;
+        }
         bench_of(held, held.glue())
     }
 

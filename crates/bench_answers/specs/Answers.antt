@@ -54,17 +54,17 @@ open_at None job = open_of job
 unfoldable pub open_input : Input → After ⊤
 open_input input = open_at (cut input) input.words
 
--- the bench, of a job that is opened
-abbrev pub opened_bench : After ⊤ → Option Bench
-opened_bench call = if is_ok call.answer then Some call.bench else None
+-- the bench that comes back, and whether it is that of a job that is opened
+abbrev pub opened_bench : After ⊤ → Result Bench Bench
+opened_bench call = if is_ok call.answer then Ok call.bench else Err call.bench
 
-pub record SaysOpened (call : After ⊤) (old new : List ℕ) (r : Option Bench) : Type 0 where
+pub record SaysOpened (call : After ⊤) (old new : List ℕ) (r : Result Bench Bench) : Type 0 where
   pub opens : r ≡ opened_bench call
   pub text : new ≡ old ++ answer_text (λ _. bytes "OPENED\n") call.answer
 
 -- by whether the file was read: one that could not be read is not opened, and nothing is put
-abbrev pub SaysInput : Result Input Failed → List ℕ → List ℕ → Option Bench → Type 0
-SaysInput (Err e) old new r = (r ≡ None) × (new ≡ old)
+abbrev pub SaysInput : Result Input Failed → List ℕ → List ℕ → Result Bench Bench → Type 0
+SaysInput (Err e) old new r = (r ≡ Err bench_of_zeros) × (new ≡ old)
 SaysInput (Ok input) old new r = SaysOpened (open_input input) old new r
 
 -- ---- show: a line for each source, as map_job prints a binding, or its name and " -"

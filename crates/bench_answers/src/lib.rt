@@ -239,23 +239,26 @@ fn open_input(input: &Input) -> After<()>
     Bench::open(input.words())
 }
 
-// What is said of a job's file, if it could be read; and its bench, if it was opened.
-pub fn open<const ROOM: usize>(input: Result<Input, Failed>, text: &mut Text<ROOM>) -> Option<Bench>
+// What is said of a job's file, if it could be read; and its bench, or the one that a job which is not opened leaves.
+pub fn open<const ROOM: usize>(
+    input: Result<Input, Failed>,
+    text: &mut Text<ROOM>,
+) -> Result<Bench, Bench>
     requires { length text.old + most_line_bytes ≤ ROOM }
     ensures { S.SaysInput input text.old text.new result }
 {
     let Ok(input) = input else {
-        return None;
+        return Err(bench::zeros());
     };
     let call = open_input(&input);
     match call.answer {
         Ok(()) => {
             text.put(b"OPENED\n");
-            Some(call.bench)
+            Ok(call.bench)
         }
         Err(error) => {
             put_error(error, text);
-            None
+            Err(call.bench)
         }
     }
 }

@@ -1,10 +1,11 @@
 -- What wiring and carry codes give, by arithmetic. Codes 2j and 2j + 1 are complements: the rest of a code chooses the word or bit, and
 -- its low bit goes into an exclusive or. Said once for all codes, and over the width.
-use Rattle.std.proofs.Common.{◌≡◌, ℕ, zero, suc, ◌+◌, ◌-◌, ◌*◌, ◌/◌, ◌%◌, ◌^◌, ◌<◌, ◌≤◌, eqb, List, [], ◌∷◌, length, get_or, sym, refl, ap, ◌∙◌, mod-lt, mod-eq_of_lt, zero-lt-suc, one-mul, zero-mul, arith, pow_pos, pow_mono}
+use Rattle.std.proofs.Common.{◌≡◌, ℕ, zero, suc, ◌+◌, ◌-◌, ◌*◌, ◌/◌, ◌%◌, ◌^◌, ◌<◌, ◌≤◌, Bool, true, false, not, eqb, List, [], ◌∷◌, length, get_or, sym, refl, ap, ◌∙◌, mod-lt, mod-eq_of_lt, zero-lt-suc, one-mul, zero-mul, arith, pow_pos, pow_mono}
 use native.Mathlib.Nat.{sub-zero}
+use mathlib.Core.Bool.{beq}
 use lib.Bits.{bit_and, bit_xor, and_mask, and_comm, xor_zero_r, xor_add_and, xor_lt}
 use Rattle.std.specs.Prelude.{if◌then◌else◌}
-use Rattle.bits.specs.Wiring.{wired, complement}
+use Rattle.bits.specs.Wiring.{wired, carried, complement}
 
 -- ---- codes in pairs
 
@@ -71,3 +72,22 @@ module _ (n code l r m : ℕ) (hl : l < 2 ^ n) (hr : r < 2 ^ n) (e : m ≡ code 
       go zero k u = let p = pow_pos n in omega arith
       go (suc zero) k u = let p = pow_pos n in omega arith
       go (suc (suc b)) k u = absurd (omega arith)
+
+-- ---- a bit
+
+xor_bit : (x b : Bool) → not (beq x b) ≡ (if b then not x else x)
+xor_bit true true = refl
+xor_bit true false = refl
+xor_bit false true = refl
+xor_bit false false = refl
+
+pub bit-of_pair : (xs : List Bool) (code : ℕ) → code / 2 < length xs
+    → not (beq (get_or xs (code / 2) false) (eqb (code % 2) 1)) ≡ get_or (pairs not xs) code false
+bit-of_pair xs code h = xor_bit (get_or xs (code / 2) false) (eqb (code % 2) 1) ∙ of_pair not false xs code h
+
+pub carried-by_low_bit : (code : ℕ) (c : Bool) → code < 4
+    → not (beq (get_or (false ∷ c ∷ []) (code / 2) false) (eqb (code % 2) 1)) ≡ carried code c
+carried-by_low_bit code c h = bit-of_pair (false ∷ c ∷ []) code (omega arith)
+
+-- the law of `carried`, by a name without a dash: an attribute reads no other
+pub ruleset carried_codes = (carried-by_low_bit)

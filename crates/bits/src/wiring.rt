@@ -44,6 +44,7 @@ pub fn wired(operands: Operands, code: u32) -> u64
 }
 
 // The bit that a carry code gives of a carry, in the same way.
+#[tactic(auto, using(crate::proofs::Wirings::carried_codes))]
 pub fn carried(code: u32, carry: bool) -> bool
     ensures { result ≡ W.carried code carry }
 {

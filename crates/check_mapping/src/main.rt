@@ -13,17 +13,23 @@ fn check(rt: &HostRuntime) {
     let _ = console::print(rt, text.as_bytes());
 }
 
+// How the program is called.
+const USAGE: [u8; 33] = *b"usage: check_mapping JOB MAPPING\n";
+
 fn main(rt: HostRuntime) {
     let run = arguments::may_run(
         &rt,
         3,
         3,
-        b"usage: check_mapping JOB MAPPING\n",
-        b"\n\
+        &USAGE,
+        &[
+            &USAGE,
+            b"\n\
         Prints ACCEPTED, or the refusal of the mapping or of its job. The files hold words of four bytes, the lowest first, as\n\
         map_job writes them and pack_words makes them of text.\n\
         \n\
         example: map_job mapping < job && check_mapping job mapping\n",
+        ],
     );
     if run {
         check(&rt);

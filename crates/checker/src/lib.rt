@@ -79,7 +79,7 @@ fn judge_fitting(pair: &Pair) -> Result<(), CheckError>
 fn judge_mapping(pair: &Pair) -> Result<(), CheckError>
     ensures { C.CheckRuled (C.judgement_of (T.terms_held pair.now.terms) pair.now.mapping pair.now.bindings.now) result }
 {
-    fitting::fit_of(pair)?;
+    pair.fits()?;
     judge_fitting(pair)
 }
 

@@ -50,7 +50,7 @@ pub allowed_gives : (b : Bench) (w : ℕ) → Allowed b w → bind_of b w ≡ Gi
 unfolding bind_of
 allowed_gives b w a =
     rw (passes b w a.unrefused)
-    (rw a.right (ap (λ (x : Bench). Gives (gives x (Ok tt))) (at_place b (source_of w) w (tables_entry b w a.unrefused.there))))
+    (rw a.right (ap (λ (x : Bench). Gives (gives x (Ok tt))) (at_place b (source_of w) w)))
 
 -- the answer's paper tells which it was; refused, the bench is as it was
 pub data Outcome (b : Bench) (w : ℕ) (r : After ⊤) : Type 0 where
@@ -83,7 +83,7 @@ outcome b w r a = go (bind_check b w) refl a
         (λ _ e. Unchanged (wrong_paper_lem (claim_on b w) b.tables.width r.answer e.1) e.0)
         (λ right e. Bound
         (record { unrefused = c; right = not-false (is_right (claim_on b w) b.tables.width) right })
-        (e ∙ ap (λ (x : Bench). gives x (Ok tt)) (at_place b (source_of w) w (tables_entry b w c.there))))
+        (e ∙ ap (λ (x : Bench). gives x (Ok tt)) (at_place b (source_of w) w)))
 
 -- ---- two binds change places
 
@@ -92,7 +92,7 @@ unfolding rule_fault
 rule_some w h e = none-some OutOfSequence (sym h ∙ ap rule_fault e)
 
 pub nothing-there : (b : Bench) (w : ℕ) → Checked b w → get_or b.bound (place_for b (source_of w)) 0 ≡ 0
-nothing-there b w c = nothing_there (sources_on b.tables) (source_of w) b.bound (tables_entry b w c.there) c.free
+nothing-there b w c = nothing_there (sources_on b.tables) (source_of w) b.bound c.free
 
 pub allowed_sound : (b : Bench) (w : ℕ) → Allowed b w → sound_bench (bound_on b w) ≡ true
 allowed_sound b w a = bound_sound_lem b w a.unrefused a.right

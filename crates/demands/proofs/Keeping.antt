@@ -23,7 +23,7 @@ use Rattle.bench.specs.Calls.{sound_bench, holding, bind_check, bind_for, claim_
 use Rattle.entries.proofs.Searching.{place_of}
 use Rattle.bench.specs.declared.Bench.{Bench}
 use Rattle.bench.specs.declared.After.{After}
-use Rattle.bench.proofs.Binds.{Checked, checked, place_for, at_place, tables_entry}
+use Rattle.bench.proofs.Binds.{Checked, checked, place_for, at_place}
 
 -- one test after another
 pub both : (p q : Bool) → (if not p then false else q) ≡ true → (p ≡ true) × (q ≡ true)
@@ -86,5 +86,5 @@ bind_keeps_sound b w r a s = go (bind_check b w) refl a
         let c = checked b w f in
         either (λ (x : Ruling (After ⊤)). BindRuled b x r → sound_bench r.bench ≡ true) (not (is_right (claim_on b w) b.tables.width))
         (λ _ e. ap sound_bench e.0 ∙ s)
-        (λ right e. ap (λ (x : After ⊤). sound_bench x.bench) e ∙ ap sound_bench (at_place b (source_of w) w (tables_entry b w c.there))
+        (λ right e. ap (λ (x : After ⊤). sound_bench x.bench) e ∙ ap sound_bench (at_place b (source_of w) w)
         ∙ bound_sound_lem b w c (not-false (is_right (claim_on b w) b.tables.width) right))

@@ -30,4 +30,3 @@ pub mod Values
 pub mod Releases
 pub mod Counts
 pub mod Demands
-pub mod LowBits

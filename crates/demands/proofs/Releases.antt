@@ -3,11 +3,14 @@
 use mathlib.Core.Path.{◌≡◌, refl, sym, ap, subst, ◌∙◌}
 use mathlib.Core.Logic.{◌↔◌}
 use mathlib.Core.Bool.{Bool, true, false}
-use mathlib.Core.List.{List, []}
-use Prim.Native.Nat.{ℕ, ◌<◌}
+use mathlib.Core.List.{List, [], ◌∷◌}
+use Prim.Native.Nat.{ℕ, zero, suc, ◌≤◌, ◌<◌}
+use native.Mathlib.Decide.{dec_lt}
 use native.Mathlib.Omega.{arith}
+use lib.Dec.{eqb}
 use lib.ListN.{length, get_or, set, length-set}
 use lib.Seq.{get_or-set_same, get_or-set_other, set-set, set-get_or}
+use borrow.Author.Tests.{eqb-true}
 use Rattle.std.specs.Prelude.{None, Ok, ⊤}
 use Rattle.words.specs.Paper.{accepted, refused, source_place}
 use Rattle.recipe.specs.Fields.{source_of}
@@ -16,7 +19,7 @@ use Rattle.verdict.specs.Verdicts.{Ruling}
 use Rattle.table.specs.Table.{lists_source, in_job}
 use Rattle.table.proofs.Entries.{source_listed, in_job-when}
 use Rattle.claims.specs.Claim.{claim_in}
-use Rattle.soundness.specs.Sound.{sources_on, targets_on, rule_fault}
+use Rattle.soundness.specs.Sound.{empty, sources_on, targets_on, rule_fault, entry_sound, bound_sound}
 use Rattle.soundness.specs.declared.Tables.{Tables}
 use Rattle.soundness.proofs.Soundness.{sound_holds, sound_sources}
 use Rattle.entries.proofs.Searching.{bound_within, bound_place, is_bound_lem, not_bound}
@@ -27,6 +30,7 @@ use Rattle.bench.specs.declared.After.{After}
 use Rattle.bench.proofs.Shapes.{sources_taken}
 use Rattle.bench.proofs.Binds.{place_for, tables_entry}
 use Rattle.demands.specs.Benches.{function_on, entry_on, BoundTo, Removes}
+use Rattle.demands.proofs.Keeping.{both}
 use Rattle.demands.proofs.Allowed.{Allowed, Outcome, Bound, Unchanged, outcome, bound_on, allowed_gives, allowed_sound, nothing-there, rule_some}
 use Rattle.demands.proofs.Releasing.{Release, Released, Kept, released_on, release, releases, unbound_refused, released_sound, release_keeps_sound}
 use Rattle.demands.proofs.Finished.{BoundRecipe, entry_at, recipe_at}
@@ -38,10 +42,26 @@ use Rattle.demands.proofs.Entries.{place_source, sources_apart}
 held_again : (b : Bench) → sound_bench b ≡ true → holding b b.bound ≡ b
 held_again b s = ap (bench_with b.tables b.bound) (sym (sound_holds b.tables b.bound b.glue s).count)
 
+-- ---- nothing stands past the sources
+
+empty_at : (bs : List ℕ) (i : ℕ) → empty bs ≡ true → get_or bs i 0 ≡ 0
+unfolding empty
+empty_at [] i e = refl
+empty_at (w ∷ bs) zero e = eqb-true w 0 (both (eqb w 0) (empty bs) e).0
+empty_at (w ∷ bs) (suc i) e = empty_at bs i (both (eqb w 0) (empty bs) e).1
+
+past_empty : (n : ℕ) (all ts ss bs : List ℕ) (i : ℕ) → bound_sound n all ts ss bs ≡ true → length ss ≤ i → get_or bs i 0 ≡ 0
+unfolding bound_sound
+past_empty n all ts [] bs i e l = empty_at bs i e
+past_empty n all ts (s ∷ ss) [] i e l = refl
+past_empty n all ts (s ∷ ss) (w ∷ bs) zero e l = absurd (omega arith)
+past_empty n all ts (s ∷ ss) (w ∷ bs) (suc i) e l =
+    past_empty n all ts ss bs i (both (entry_sound n all ts s w) (bound_sound n all ts ss bs) e).1 (omega arith)
+
 -- ---- where a function has a binding
 
 something_there : (b : Bench) (f : ℕ) → has_binding b f ≡ true → get_or b.bound (place_for b f) 0 ≡ 0 → ⊥
-something_there b f u = (bound_place (sources_on b.tables) f b.bound u).1
+something_there b f u = bound_place (sources_on b.tables) f b.bound u
 
 module _ (b : Bench) (h : Shaped b) (s : sound_bench b ≡ true) where
   -- no two sources have the same function
@@ -57,7 +77,15 @@ module _ (b : Bench) (h : Shaped b) (s : sound_bench b ≡ true) where
     entry_held = bound_within (sources_on b.tables) f b.bound u
 
     entry_within : place_for b f < length (sources_on b.tables)
-    entry_within = (bound_place (sources_on b.tables) f b.bound u).0
+    entry_within =
+        elim (dec_lt (place_for b f) (length (sources_on b.tables))) [
+          | yes l ↦ l
+          | no l ↦
+              absurd
+              (something_there b f u
+              (past_empty b.tables.width (sources_on b.tables) (targets_on b.tables) (sources_on b.tables) b.bound
+              (place_for b f) (sound_holds b.tables b.bound b.glue s).entries (omega arith)))
+        ]
 
     abbrev bound_to : BoundTo b f
     bound_to =
@@ -132,7 +160,7 @@ module _ (b : Bench) (h : Shaped b) where
     has_binding_lem : BoundTo b f → has_binding b f ≡ true
     has_binding_lem t =
         let same = one_entry b h s f t.entry t.within t.its_source in
-        is_bound_lem (sources_on b.tables) f b.bound (omega (arith, same, t.within, sources_taken b h s))
+        is_bound_lem (sources_on b.tables) f b.bound
         (λ z. t.not_empty (ap (λ (x : ℕ). get_or b.bound x 0) (sym same) ∙ z))
 
     pub releases_exactly_the_bound : (paper_of (release_of b f).answer ≡ accepted []) ↔ BoundTo b f
@@ -165,7 +193,7 @@ module _ (b : Bench) (h : Shaped b) where
           let held : get_or (set b.bound i w) i 0 ≡ w
           = get_or-set_same b.bound i w 0 (omega (arith, tables_entry b w a.unrefused.there, h.bound_entries, sound_sources b.tables b.bound b.glue a.unrefused.sound, few)) in
           releases (bound_on b w) (source_of w) (allowed_sound b w a)
-          (is_bound_lem (sources_on b.tables) (source_of w) (set b.bound i w) (tables_entry b w a.unrefused.there) (λ z. rule_some w a.unrefused.a_rule (sym held ∙ z)))
+          (is_bound_lem (sources_on b.tables) (source_of w) (set b.bound i w) (λ z. rule_some w a.unrefused.a_rule (sym held ∙ z)))
           ∙ ap (λ (x : List ℕ). gives (holding b x) (Ok tt))
           (set-set b.bound i w 0
           ∙ ap (set b.bound i) (sym (nothing-there b w a.unrefused))

@@ -14,7 +14,6 @@ use Rattle.bench.specs.Calls.{sound_bench, holding, has_binding, gives, refuses,
 use Rattle.bench.specs.declared.Bench.{Bench}
 use Rattle.bench.specs.declared.After.{After}
 use Rattle.bench.proofs.Binds.{place_for, at_place}
-use Rattle.entries.proofs.Searching.{bound_place}
 use Rattle.demands.proofs.Keeping.{both}
 use Rattle.words.specs.declared.Fault.{Fault}
 use Rattle.words.specs.declared.Fault.TheVariants.{NotBound, NotSound}
@@ -38,7 +37,7 @@ module _ (b : Bench) (f : ℕ) where
   unfolding release_of
   releases s u =
       rw s
-      (rw u (ap (λ (x : Bench). gives x (Ok tt)) (at_place b f nothing (bound_place (sources_on b.tables) f b.bound u).0)))
+      (rw u (ap (λ (x : Bench). gives x (Ok tt)) (at_place b f nothing)))
 
 -- the answer's paper tells which it was; refused, the bench is as it was
 pub data Release (b : Bench) (f : ℕ) : Type 0 where

@@ -1,5 +1,5 @@
 -- The searches of entries: the entry of a function, and the first empty one.
-use mathlib.Core.Path.{◌≡◌, refl, sym, ap, ◌∙◌}
+use mathlib.Core.Path.{◌≡◌, refl, sym, ap, subst, ◌∙◌}
 use mathlib.Core.Bool.{Bool, true, false, ◌||◌, not, false≢true}
 use mathlib.Core.List.{List, [], ◌∷◌}
 use mathlib.Core.Logic.{◌⊎◌, inl, inr}
@@ -12,6 +12,7 @@ use borrow.Author.Tests.{eq-eqb, ne_eqb, eqb-true, eqb-false, not-true, not-fals
 use Rattle.std.specs.Prelude.{if◌then◌else◌, Option, Some, None}
 use Rattle.std.specs.List.{position_or_len}
 use Rattle.std.proofs.lemmas.Grind.{common_steps}
+use Rattle.std.proofs.lemmas.List.Sums.{prefix_len-le-length}
 use Rattle.words.specs.Field.{source_function}
 use Rattle.table.specs.Table.{lists_source}
 use Rattle.entries.specs.Entries.{entry_of, holds_one, is_bound, first_empty}
@@ -43,51 +44,59 @@ module _ (ss : List ℕ) (f : ℕ) where
   pub entry_place : (i : ℕ) → entry_of ss f ≡ Some i → (i ≡ place_of ss f) × (i < length ss)
   entry_place i e = (grind (arith, common_steps), grind (arith, common_steps))
 
+  -- what is said of the entry where there is one, and of the one past the sources where there is none, is said of the place
+  pub at_entry : (P : Option ℕ → ℕ → Type 0) → ((i : ℕ) → P (Some i) i) → P None (length ss) → P (entry_of ss f) (place_of ss f)
+  at_entry P some none =
+      let p = place_of ss f in
+      elim (dec_lt p (length ss)) [
+        | yes h ↦ subst (λ o. P o p) (sym (entry_there h)) (some p)
+        | no h ↦
+            let most : p ≤ length ss = prefix_len-le-length (λ s. not (eqb (source_function s) f)) ss in
+            let last : length ss ≡ p = omega arith in
+            subst (λ o. P o p) (sym (entry_absent (omega arith))) (subst (P None) last none)
+      ]
+
   module _ (bs : List ℕ) where
     module _ (r : Option ℕ) (er : r ≡ entry_of ss f) where
       pub bound_some : (i : ℕ) → r ≡ Some i → not (eqb (get_or bs i 0) 0) ≡ is_bound ss bs f
       unfolding is_bound
-      bound_some i e = ap (holds_one bs) (sym e ∙ er)
+      bound_some i e = ap (holds_one ss bs) (sym e ∙ er)
 
-      pub bound_none : r ≡ None → false ≡ is_bound ss bs f
-      unfolding is_bound
-      bound_none e = ap (holds_one bs) (sym e ∙ er)
+      module _ (i : ℕ) (ei : i ≡ length ss) (e : r ≡ None) where
+        pub bound_past : not (eqb (get_or bs i 0) 0) ≡ is_bound ss bs f
+        unfolding is_bound
+        bound_past = ap (λ (x : ℕ). not (eqb (get_or bs x 0) 0)) ei ∙ ap (holds_one ss bs) (sym e ∙ er)
 
-    bound_there : place_of ss f < length ss → not (eqb (get_or bs (place_of ss f) 0) 0) ≡ is_bound ss bs f
-    bound_there h = bound_some (entry_of ss f) refl (place_of ss f) (entry_there h)
+        -- there is no entry past the last
+        pub bound_nowhere : (most : ℕ) → length bs ≡ most → most ≤ i → false ≡ is_bound ss bs f
+        bound_nowhere most n h = (rw (get_or-eq_default bs 0 {n = i} (omega arith)) refl) ∙ bound_past
 
-    bound_nowhere : length ss ≤ place_of ss f → false ≡ is_bound ss bs f
-    bound_nowhere h = bound_none (entry_of ss f) refl (entry_absent h)
+    -- whether something is bound is seen at the place
+    pub seen_there : not (eqb (get_or bs (place_of ss f) 0) 0) ≡ is_bound ss bs f
+    unfolding is_bound
+    seen_there = at_entry (λ o i. not (eqb (get_or bs i 0) 0) ≡ holds_one ss bs o) (λ i. refl) refl
 
-    -- what is bound to a function stands at its source's place
-    pub bound_place : is_bound ss bs f ≡ true → (place_of ss f < length ss) × (get_or bs (place_of ss f) 0 ≡ 0 → ⊥)
-    bound_place e =
-        elim (dec_lt (place_of ss f) (length ss)) [
-          | yes h ↦ (h, eqb-false (get_or bs (place_of ss f) 0) 0 (not-true (eqb (get_or bs (place_of ss f) 0) 0) (bound_there h ∙ e)))
-          | no h ↦ absurd (false≢true (bound_nowhere (omega arith) ∙ e))
-        ]
+    -- what is bound to a function stands at its place
+    pub bound_place : is_bound ss bs f ≡ true → get_or bs (place_of ss f) 0 ≡ 0 → ⊥
+    bound_place e = eqb-false (get_or bs (place_of ss f) 0) 0 (not-true (eqb (get_or bs (place_of ss f) 0) 0) (seen_there ∙ e))
 
     -- and within the entries
     pub bound_within : is_bound ss bs f ≡ true → place_of ss f < length bs
     bound_within e =
         elim (dec_lt (place_of ss f) (length bs)) [
           | yes h ↦ h
-          | no h ↦ absurd ((bound_place e).1 (get_or-eq_default bs 0 {n = place_of ss f} (omega arith)))
+          | no h ↦ absurd (bound_place e (get_or-eq_default bs 0 {n = place_of ss f} (omega arith)))
         ]
 
-    pub is_bound_lem : place_of ss f < length ss → (get_or bs (place_of ss f) 0 ≡ 0 → ⊥) → is_bound ss bs f ≡ true
-    is_bound_lem h some = sym (bound_there h) ∙ rw (ne_eqb (get_or bs (place_of ss f) 0) 0 some) refl
+    pub is_bound_lem : (get_or bs (place_of ss f) 0 ≡ 0 → ⊥) → is_bound ss bs f ≡ true
+    is_bound_lem some = sym seen_there ∙ rw (ne_eqb (get_or bs (place_of ss f) 0) 0 some) refl
 
-    pub nothing_there : place_of ss f < length ss → is_bound ss bs f ≡ false → get_or bs (place_of ss f) 0 ≡ 0
-    nothing_there h e =
-        eqb-true (get_or bs (place_of ss f) 0) 0 (not-false (eqb (get_or bs (place_of ss f) 0) 0) (bound_there h ∙ e))
+    pub nothing_there : is_bound ss bs f ≡ false → get_or bs (place_of ss f) 0 ≡ 0
+    nothing_there e =
+        eqb-true (get_or bs (place_of ss f) 0) 0 (not-false (eqb (get_or bs (place_of ss f) 0) 0) (seen_there ∙ e))
 
     pub not_bound : get_or bs (place_of ss f) 0 ≡ 0 → is_bound ss bs f ≡ false
-    not_bound e =
-        elim (dec_lt (place_of ss f) (length ss)) [
-          | yes h ↦ sym (bound_there h) ∙ rw (eq-eqb (get_or bs (place_of ss f) 0) 0 e) refl
-          | no h ↦ sym (bound_nowhere (omega arith))
-        ]
+    not_bound e = sym seen_there ∙ rw (eq-eqb (get_or bs (place_of ss f) 0) 0 e) refl
 
 -- ---- the first empty entry
 

@@ -3,13 +3,15 @@
 
 mod lookup;
 
-ghost use Rattle.std.specs.Prelude.{◌≡◌};
+ghost use Rattle.std.specs.Prelude.{◌≡◌, ◌<◌, IfSome};
+ghost use Rattle.sequence.specs.Limits.{most_sources};
 ghost use Rattle.verdict.specs.Verdicts as D;
 ghost use Rattle.table.specs.Table as T;
 ghost use Rattle.claims.specs.Claim as C;
 ghost use Rattle.soundness.specs.Sound as S;
 ghost use Rattle.entries.specs.Entries as E;
 
+use sequence::MOST_SOURCES;
 use soundness::{BoundTables, NOTHING, SoundTables};
 use verdict::Verdict;
 
@@ -21,19 +23,24 @@ pub fn in_tables(tables: SoundTables, word: u32) -> bool
 }
 
 // The entry of the source whose function it is.
+#[tactic(auto, using(soundness::proofs::Shapes::sound_shaped, crate::proofs::Tabled::entry_few))]
 pub fn entry_for(tables: SoundTables, function: u32) -> Option<usize>
-    ensures { result ≡ E.entry_of (S.sources_on tables.tables) function }
+    ensures entry { result ≡ E.entry_of (S.sources_on tables.tables) function }
+    ensures few { IfSome result (λ i. i < most_sources) }
 {
     lookup::entry_of(tables.terms().sources, function)
 }
 
-// Whether something is bound to a function.
-#[tactic(auto, using(soundness::proofs::Shapes::held_shaped, crate::proofs::Tabled::entry_few, crate::proofs::Searching::bound_some, crate::proofs::Searching::bound_none))]
+// Whether something is bound to a function. Of one that is no source's, the entry past the sources is looked at, in which a sound
+// bench holds nothing.
+#[tactic(auto, using(soundness::proofs::Shapes::held_entries, crate::proofs::Searching::bound_some, crate::proofs::Searching::bound_past, crate::proofs::Searching::bound_nowhere))]
 pub fn is_bound(held: BoundTables, function: u32) -> bool
     ensures { result ≡ E.is_bound (S.sources_on held.tables.tables) held.bound function }
 {
+    let past = held.tables.terms().sources.len();
     match entry_for(held.tables, function) {
         Some(entry) => held.bound[entry] != NOTHING,
+        None if past < MOST_SOURCES => held.bound[past] != NOTHING,
         None => false,
     }
 }

@@ -15,7 +15,7 @@ pub fn map(rt: &HostRuntime, job: Input) {
 
 pub fn open(rt: &HostRuntime, job: Input) {
     let mut text = Said::new();
-    bench_answers::open(Ok(job), &mut text);
+    let _ = bench_answers::open(Ok(job), &mut text);
     let _ = console::print(rt, text.as_bytes());
 }
 

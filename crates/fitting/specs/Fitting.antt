@@ -14,8 +14,11 @@ all_in_job sources targets place [] = Ok tt
 all_in_job sources targets place (w ∷ ws) =
     if not (in_job sources targets w) then Err (refusal NotInJob place) else all_in_job sources targets (place + 1) ws
 
--- "7. Widths of mapping and job differ; place 0."; then 8
+-- "7. Widths of mapping and job differ; place 0."; then 8: all that counts of a job is its width and its source and target words
+abbrev pub fit_at_width : ℕ → List ℕ → List ℕ → Mapping → List ℕ → Result ⊤ Refusal
+fit_at_width width sources targets mapping bindings =
+    if not (eqb width mapping.width) then Err (refusal OtherWidth 0)
+    else all_in_job sources targets bindings_start bindings
+
 unfoldable pub fit_of : Terms → Mapping → List ℕ → Result ⊤ Refusal
-fit_of t mapping bindings =
-    if not (eqb t.width mapping.width) then Err (refusal OtherWidth 0)
-    else all_in_job t.sources t.targets bindings_start bindings
+fit_of t mapping bindings = fit_at_width t.width t.sources t.targets mapping bindings

@@ -68,15 +68,30 @@ impl<'a> Pair<'a> {
             bindings: mapping_words.bindings(),
         })
     }
+
+    // Whether the mapping fits the job, or the first refusal, 7 or 8.
+    #[tactic(auto, unfolding(crate::specs::Fitting::fit_of))]
+    pub fn fits(&self) -> Result<(), Refusal>
+        ensures { result ≡ F.fit_of (T.terms_held self.now.terms) self.now.mapping self.now.bindings.now }
+    {
+        let terms = &self.terms;
+        fit_at_width(
+            terms.width.n,
+            terms.sources,
+            terms.targets,
+            self.mapping,
+            self.bindings,
+        )
+    }
 }
 
 // Whether the functions of all bindings are in the job.
 #[tactic(auto, using(crate::proofs::Fitted::next_binding, crate::proofs::Fitted::none_strange))]
-fn all_in_job(terms: &Terms, bindings: &[u32]) -> Result<(), Refusal>
-    ensures { result ≡ F.all_in_job terms.now.sources.now terms.now.targets.now bindings_start bindings.now }
+fn all_in_job(sources: &[u32], targets: &[u32], bindings: &[u32]) -> Result<(), Refusal>
+    ensures { result ≡ F.all_in_job sources.now targets.now bindings_start bindings.now }
 {
     for (i, binding) in bindings.iter().enumerate() {
-        if !terms.in_job(*binding) {
+        if !table::in_job(sources, targets, *binding) {
             return Err(Refusal {
                 fault: Fault::NotInJob,
                 place: reader::BINDINGS_START + i,
@@ -86,16 +101,35 @@ fn all_in_job(terms: &Terms, bindings: &[u32]) -> Result<(), Refusal>
     Ok(())
 }
 
-// Whether a mapping fits its job, or the first refusal, 7 or 8: the width first, then the bindings.
-#[tactic(auto, unfolding(crate::specs::Fitting::fit_of))]
-pub fn fit_of(pair: &Pair) -> Result<(), Refusal>
-    ensures { result ≡ F.fit_of (T.terms_held pair.now.terms) pair.now.mapping pair.now.bindings.now }
+// Whether a mapping fits a job of this width, with these tables: the width first, then the bindings.
+fn fit_at_width(
+    width: u32,
+    sources: &[u32],
+    targets: &[u32],
+    mapping: Mapping,
+    bindings: &[u32],
+) -> Result<(), Refusal>
+    ensures { result ≡ F.fit_at_width width sources.now targets.now mapping bindings.now }
 {
-    if pair.terms.width.n != pair.mapping.width {
+    if width != mapping.width {
         return Err(Refusal {
             fault: Fault::OtherWidth,
             place: 0,
         });
     }
-    all_in_job(&pair.terms, pair.bindings)
+    all_in_job(sources, targets, bindings)
+}
+
+// Whether a mapping fits its job, or the first refusal, 7 or 8. The job may be of any width.
+#[tactic(auto, unfolding(crate::specs::Fitting::fit_of))]
+pub fn fit_of(
+    job: Job,
+    sources: &[u32],
+    targets: &[u32],
+    mapping: Mapping,
+    bindings: &[u32],
+) -> Result<(), Refusal>
+    ensures { result ≡ F.fit_of (T.terms_with job sources.now targets.now) mapping bindings.now }
+{
+    fit_at_width(job.width, sources, targets, mapping, bindings)
 }

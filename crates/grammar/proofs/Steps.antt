@@ -11,14 +11,14 @@ use Rattle.words.specs.declared.kind.Word.{Word}
 use Rattle.words.specs.declared.kind.WordKind.{WordKind}
 use Rattle.words.specs.declared.kind.WordKind.TheVariants.{Header, Prices, Source, Target, Rule, Binding, Glue}
 use Rattle.words.specs.declared.Fault.TheVariants.{OutOfSequence}
-use Rattle.words.proofs.Named.{named_back, no_kind, same_kind}
+use Rattle.words.proofs.Named.{named_back, same_kind}
 use Rattle.words.proofs.Choices.{either}
 use Rattle.recipe.specs.Fields.{source_of}
 use Rattle.layout.specs.Layout.{laid_out}
-use Rattle.sequence.specs.Sequence.{START, stage_of, function_of, job_sequence, mapping_sequence, in_sequence}
+use Rattle.sequence.specs.Sequence.{START, stage_of, function_of}
+use Rattle.sequence.proofs.Numbers.{unnamed_word}
 use Rattle.grammar.specs.Reading.{header_fits, prices_fit, source_fits, target_fits, glue_fits, fits, function_in, rises, word_fault, step_of}
 use Rattle.sequence.specs.declared.File.{File}
-use Rattle.sequence.specs.declared.File.TheVariants.{AsJob, AsMapping}
 use Rattle.sequence.specs.declared.State.{State}
 
 -- ---- 3: what stands below the kind
@@ -88,11 +88,6 @@ not_at_start word = ne_eqb START (kind_of word.bits) (λ e. none≢some (ap kind
 -- ---- the step
 
 -- a word of no kind is out of sequence
-pub unnamed_word : (file : File) (s : State) (w : ℕ) → kind_named (kind_of w) ≡ None → in_sequence file s (kind_of w) ≡ false
-unfolding in_sequence job_sequence mapping_sequence
-unnamed_word AsJob s w e = let no = no_kind (kind_of w) e in rw (no Header, no Prices, no Source, no Target, no Rule) refl
-unnamed_word AsMapping s w e = let no = no_kind (kind_of w) e in rw (no Header, no Binding, no Glue) refl
-
 pub no_step : (file : File) (s : State) (w : ℕ) → kind_named (kind_of w) ≡ None → Err OutOfSequence ≡ step_of file s w
 unfolding word_fault
-no_step file s w e = rw (unnamed_word file s w e) refl
+no_step file s w e = rw (sym (unnamed_word file s (kind_of w) e)) refl

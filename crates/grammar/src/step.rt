@@ -4,7 +4,7 @@ ghost use Rattle.sequence.specs.Limits.{most_job_words};
 ghost use Rattle.grammar.specs.Reading as R;
 ghost use Rattle.grammar.specs.Asked as Q;
 
-use sequence::{File, Last, State, in_sequence};
+use sequence::{File, Last, State, may_come};
 use words::{Fault, Word, WordKind, content_of};
 
 // What a header must be: a width, and in a job bit 7 besides, which asks for the book.
@@ -83,7 +83,7 @@ fn rises(s: State, word: Word) -> bool
 fn word_fault(file: File, s: State, word: Word) -> Option<Fault>
     ensures { result ≡ R.word_fault file s word.bits }
 {
-    if !in_sequence(file, s, word.kind) {
+    if !may_come(file, s, word.kind) {
         return Some(Fault::OutOfSequence);
     }
     if !kind_fits(file, word) {

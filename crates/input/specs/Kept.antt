@@ -11,6 +11,11 @@ pub record BringsBytes (kept : List ℕ) (at : ℕ) (after : List ℕ) (count : 
   pub counted : count ≡ length chunk
   pub kept_behind : after ≡ sets kept at (take (length kept - at) chunk)
 
+-- what is kept after the system's answer to a read into a chunk: the bytes that it brought, behind those before; of a failure none
+abbrev pub kept_after : List ℕ → ℕ → List ℕ → Result ℕ Failed → List ℕ
+kept_after kept at chunk (Ok count) = sets kept at (take (length kept - at) (take count chunk))
+kept_after kept at chunk (Err e) = kept
+
 -- one that fails brings none
 abbrev pub Brings : List ℕ → ℕ → List ℕ → Result ℕ Failed → Type 0
 Brings kept at after (Ok count) = BringsBytes kept at after count

@@ -27,7 +27,7 @@ const MOST: usize = 4611686018427387904;
 
 // What was read of a file: the words that were kept, and how many bytes the file has.
 // Kept: no heap, a rule of the project.
-#[derive(Drop)]
+#[derive(Clone, Copy)]
 pub struct Input {
     words: [u32; KEPT_WORDS],
     kept: usize,
@@ -35,19 +35,25 @@ pub struct Input {
 }
 
 impl Model for Input {
-    ghost use Rattle.std.specs.Prelude.{take, ◌≤◌};
-    ghost use Rattle.input.specs.Read.{Words, kept_words};
+    ghost use Rattle.std.specs.Prelude.{length, take};
+    ghost use Rattle.input.specs.Read.{Words};
+    ghost use Rattle.input.specs.Room.{StandFirst, room_with, room_back};
 
     ghost Value = { Words };
 
     ghost view = { λ i. record { words = take i.kept i.words; bytes = i.bytes } };
 
-    ghost invariant = { λ i. i.kept ≤ kept_words };
+    ghost invariant = { λ i. StandFirst i.kept i.words };
+
+    // The room behind the words that were kept is zeros, so the view forgets nothing.
+    ghost inverse = { λ v. record { words = room_with v.words; kept = length v.words; bytes = v.bytes } };
+
+    ghost inverse_ok = { λ i h x. record { words = room_back i.kept i.words h x; kept = h.there x; bytes = i.bytes } };
 }
 
 impl Input {
     // What is read of so many bytes of a file of these words: the first of its whole words, as many as are kept.
-    #[tactic(auto, using(crate::proofs::Chunks::words_taken))]
+    #[tactic(auto, using(crate::proofs::Chunks::words_taken, crate::proofs::Room::copied_first))]
     pub fn of_words(words: &[u32], bytes: usize) -> Input
         ensures { result ≡ R.kept_of words.now bytes }
     {
@@ -115,6 +121,22 @@ fn read_chunk<S: Read>(
     read.map_err(|why| console::said(rt, name, why))
 }
 
+// Takes what the system answered to a read: that it failed, or how many bytes of the chunk it brought, which are kept behind those before.
+fn take_read(
+    got: Result<usize, Failed>,
+    chunk: &[u8],
+    kept: &mut [u8],
+    at: usize,
+) -> Result<usize, Failed>
+    requires { IfOk got (λ n. n ≤ length chunk.now) }
+    ensures answer { result ≡ got }
+    ensures kept { kept.new ≡ K.kept_after kept.old at chunk.now got }
+{
+    let count = got?;
+    keep(&chunk[..count], kept, at);
+    Ok(count)
+}
+
 // Reads once, and answers how many bytes came.
 fn read_some<S: Read>(
     rt: &HostRuntime,
@@ -127,9 +149,8 @@ fn read_some<S: Read>(
     ensures brings { K.Brings kept.old at kept.new result }
 {
     let mut chunk = [0u8; CHUNK];
-    let count = read_chunk(rt, reader, name, &mut chunk)?;
-    keep(&chunk[..count], kept, at);
-    Ok(count)
+    let got = read_chunk(rt, reader, name, &mut chunk);
+    take_read(got, &chunk, kept, at)
 }
 
 // Reads to the end of the file, and answers how many bytes it has.
@@ -154,7 +175,7 @@ fn read_bytes<S: Read>(
 }
 
 // What is read of a file of so many bytes, by those of them that were kept; nothing of a file whose reading failed.
-#[tactic(auto, using(crate::proofs::Chunks::words_put))]
+#[tactic(auto, using(crate::proofs::Chunks::words_put, crate::proofs::Room::put_first))]
 fn input_from(bytes: &[u8], size: Result<usize, Failed>) -> Result<Input, Failed>
     requires { length bytes.now ≡ R.kept_bytes }
     ensures { result ≡ K.input_from bytes.now size }

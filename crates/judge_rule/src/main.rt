@@ -66,13 +66,16 @@ fn main(rt: HostRuntime) {
         2,
         3,
         &USAGE,
-        b"\n\
+        &[
+            &USAGE,
+            b"\n\
         Prints a line for each rule or binding: RIGHT, WRONG and where it differs from its source function, or the refusal.\n\
         With all, WRONG comes with the least width at which it does. With negated, the O0 and O1 of each word's target come\n\
         out complemented. A word is eight hexadecimal digits. Spaces or line feeds part words; # begins a comment, which\n\
         ends with its line.\n\
         \n\
         example: echo '5C894407 # LT as the sign of SUB' | judge_rule 8\n",
+        ],
     );
     if !run {
         return;

@@ -23,17 +23,23 @@ fn map(rt: &HostRuntime) {
     }
 }
 
+// How the program is called.
+const USAGE: [u8; 28] = *b"usage: map_job [FILE] < JOB\n";
+
 fn main(rt: HostRuntime) {
     let run = arguments::may_run(
         &rt,
         1,
         2,
-        b"usage: map_job [FILE] < JOB\n",
-        b"\n\
+        &USAGE,
+        &[
+            &USAGE,
+            b"\n\
         Prints a line for each binding of the job's mapping, and its glue count; or the refusal. Writes the mapping's words to\n\
         FILE, if it is named. A job is words of four bytes, the lowest first, as pack_words makes them of text.\n\
         \n\
         example: pack_words < examples/printed.job | map_job mapping\n",
+        ],
     );
     if run {
         map(&rt);

@@ -20,17 +20,23 @@ fn pack(rt: &HostRuntime) -> Result<(), Failed> {
     Ok(())
 }
 
+// How the program is called.
+const USAGE: [u8; 33] = *b"usage: pack_words < TEXT > WORDS\n";
+
 fn main(rt: HostRuntime) {
     let run = arguments::may_run(
         &rt,
         1,
         1,
-        b"usage: pack_words < TEXT > WORDS\n",
-        b"\n\
+        &USAGE,
+        &[
+            &USAGE,
+            b"\n\
         Writes the bytes of words, four each, the lowest first. A word is eight hexadecimal digits. Spaces or line feeds\n\
         part words; # begins a comment, which ends with its line.\n\
         \n\
         example: echo '10000010 20010103 # width 16, prices' | pack_words > words\n",
+        ],
     );
     if run {
         let _ = pack(&rt);

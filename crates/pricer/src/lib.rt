@@ -22,7 +22,7 @@ pub fn glue_of(terms: &Terms, bindings: &[u32]) -> u32
 fn price_under(pair: &Pair) -> Result<u32, PairError>
     ensures { result ≡ P.priced_under (T.terms_held pair.now.terms) pair.now.mapping pair.now.bindings.now }
 {
-    fitting::fit_of(pair)?;
+    pair.fits()?;
     Ok(glue_of(&pair.terms, pair.bindings))
 }
 

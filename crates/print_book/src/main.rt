@@ -27,11 +27,14 @@ fn main(rt: HostRuntime) {
         1,
         1,
         b"usage: print_book\n",
-        b"\n\
+        &[
+            b"usage: print_book\n\
+        \n\
         Prints a line for each rule of the book: source, target or LV, word, and the record of the report's appendix A that\n\
         it comes from, or - for a companion. Its words are text for judge_rule and pack_words.\n\
         \n\
         example: print_book | cut -d ' ' -f 3 | judge_rule all\n",
+        ],
     );
     if run {
         let _ = print_all(&rt);

@@ -100,11 +100,22 @@ fn mapping_sequence(s: State, kind: WordKind) -> bool
 
 // May a word of this kind come next?
 #[tactic(auto, unfolding(crate::specs::Sequence::in_sequence))]
-pub fn in_sequence(file: File, s: State, kind: WordKind) -> bool
+pub fn may_come(file: File, s: State, kind: WordKind) -> bool
     ensures { result ≡ S.in_sequence file s (kind_number kind) }
 {
     match file {
         File::AsJob => job_sequence(s, kind),
         File::AsMapping => mapping_sequence(s, kind),
+    }
+}
+
+// May a word whose kind has this number come next? Of a number that is no kind's, never.
+#[tactic(auto, using(crate::proofs::Numbers::named_word, crate::proofs::Numbers::unnamed_word))]
+pub fn in_sequence(file: File, s: State, kind: u32) -> bool
+    ensures { result ≡ S.in_sequence file s kind }
+{
+    match WordKind::try_from(kind) {
+        Ok(kind) => may_come(file, s, kind),
+        Err(_) => false,
     }
 }

@@ -67,11 +67,14 @@ fn main(rt: HostRuntime) {
         1,
         1,
         b"usage: show_words < FILE\n",
-        b"\n\
+        &[
+            b"usage: show_words < FILE\n\
+        \n\
         Prints a line for each word of a job or a mapping: its eight digits and what it is, or its refusal. What is printed,\n\
         cut to the digits, is text for pack_words.\n\
         \n\
         example: echo 54000001 | pack_words | show_words\n",
+        ],
     );
     if run {
         let _ = show_all(&rt);

@@ -10,18 +10,36 @@ ghost use Rattle.table.specs.Table as T;
 pub use parts::{JobWords, MappingWords};
 pub use terms::Terms;
 
+// Whether a recipe is from scratch or from a target of the job.
+#[tactic(auto, unfolding(crate::specs::Table::has_target))]
+pub fn has_target(targets: &[u32], word: u32) -> bool
+    ensures { result ≡ T.has_target targets.now word }
+{
+    let target = recipe::target_of(word);
+    recipe::from_scratch(word)
+        || targets
+            .iter()
+            .any(|entry| words::target_function(*entry) == target)
+}
+
+// Whether the source and the target function of a recipe are in the job.
+#[tactic(auto, unfolding(crate::specs::Table::in_job, crate::specs::Table::lists_source))]
+pub fn in_job(sources: &[u32], targets: &[u32], word: u32) -> bool
+    ensures { result ≡ T.in_job sources.now targets.now word }
+{
+    let source = recipe::source_of(word);
+    sources
+        .iter()
+        .any(|entry| words::source_function(*entry) == source)
+        && has_target(targets, word)
+}
+
 impl Terms<'_> {
-    // Whether a recipe is from scratch or from a target of the job.
-    #[tactic(auto, unfolding(crate::specs::Table::has_target))]
+    // Whether a recipe is from scratch or from a target of these terms.
     pub fn has_target(&self, word: u32) -> bool
         ensures { result ≡ T.has_target self.now.targets.now word }
     {
-        let target = recipe::target_of(word);
-        recipe::from_scratch(word)
-            || self
-                .targets
-                .iter()
-                .any(|entry| words::target_function(*entry) == target)
+        has_target(self.targets, word)
     }
 
     // Whether a function is among the targets, negated.
@@ -34,15 +52,10 @@ impl Terms<'_> {
         })
     }
 
-    // Whether the source and the target function of a recipe are in the job.
-    #[tactic(auto, unfolding(crate::specs::Table::in_job, crate::specs::Table::lists_source))]
+    // Whether the source and the target function of a recipe are in these terms.
     pub fn in_job(&self, word: u32) -> bool
         ensures { result ≡ T.in_job self.now.sources.now self.now.targets.now word }
     {
-        let source = recipe::source_of(word);
-        self.sources
-            .iter()
-            .any(|entry| words::source_function(*entry) == source)
-            && self.has_target(word)
+        in_job(self.sources, self.targets, word)
     }
 }

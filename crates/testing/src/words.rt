@@ -1,4 +1,6 @@
 // The job and the mapping that document 01 prints, with request #106's count, and how words are taken apart and put together.
+ghost use Rattle.std.specs.Prelude.{◌≤◌};
+
 use crate::kinds::Kind;
 
 pub const JOB: [u32; 14] = [
@@ -77,6 +79,7 @@ pub fn lent_holds(lent: &[u32], words: &[u32]) -> bool {
 pub struct Words<const ROOM: usize> {
     words: [u32; ROOM],
     size: usize,
+    ghost few: { size ≤ ROOM },
 }
 
 impl<const ROOM: usize> Words<ROOM> {

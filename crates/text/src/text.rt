@@ -40,6 +40,20 @@ fn glyph(digit: u64) -> u8
     55 + digit as u8
 }
 
+// Fills places with the last digits of a number in a base, from the last place down.
+#[tactic(auto, using(crate::proofs::Digits::no_digit_yet, crate::proofs::Digits::one_digit, crate::proofs::Digits::all_digits))]
+fn fill_digits(places: &mut [u8], n: u64, base: u64)
+    requires { (2 ≤ base) × (base ≤ 16) }
+    ensures { places.new ≡ T.digits base (length places.old) n }
+{
+    let count = places.len();
+    let mut rest = n;
+    for i in 0..count {
+        places[count - 1 - i] = glyph(rest % base);
+        rest = rest / base;
+    }
+}
+
 // How many decimal digits a number has.
 #[tactic(auto, using(crate::proofs::Digits::count_ends, crate::proofs::Digits::count_goes_on, crate::proofs::Digits::count_full))]
 fn digit_count(n: u64) -> usize
@@ -110,17 +124,16 @@ impl<const ROOM: usize> Text<ROOM> {
     // Puts the last k digits of a number in a base.
     // Kept: by hand and not by `write!`. The library says what `{}` and `{:x}` write, but not the capital digits of `{:X}`; and a write
     // through `fmt::Write` can fail, while a put cannot.
-    #[tactic(auto, unfolding(crate::specs::Text::digits))]
+    #[tactic(auto, using(crate::proofs::Digits::digits_length))]
     pub fn put_digits(&mut self, n: u64, base: u64, k: usize)
         requires { (length self.old + k ≤ ROOM) × (2 ≤ base) × (base ≤ 16) }
         ensures short { length self.new ≡ length self.old + k }
         ensures text { self.new ≡ self.old ++ T.digits base k n }
     {
-        if k == 0 {
-            return;
-        }
-        self.put_digits(n / base, base, k - 1);
-        self.put(&[glyph(n % base)]);
+        let start = self.end;
+        let room = &mut self.bytes[..];
+        fill_digits(&mut room[start..start + k], n, base);
+        self.end = start + k;
     }
 
     // Puts a number in decimal.

@@ -2,15 +2,20 @@
 #![tactic(auto)]
 
 use bits::Ports;
-use reference::answer::{Refusal, Subject, refused, wrong};
+use reference::answer::{Refusal, Subject, wrong};
 use reference::evaluator::Shown;
 use reference::recipe::{Port, Recipe};
 use reference::trial::{Witness, bears_out, is_right};
 use verdict::Verdict;
 
-// A refusal of a file, of both, or of a word.
+// A refusal of a file, of both, or of a word. Only operands show that a recipe is wrong, and a refusal 10 has none.
 pub fn refusal_of(subject: Subject, refusal: words::Refusal) -> Refusal {
-    refused(subject, u32::from(refusal.fault), refusal.place)
+    Refusal {
+        subject,
+        number: u32::from(refusal.fault),
+        place: refusal.place,
+        shown: refusal.fault != words::Fault::WrongRecipe,
+    }
 }
 
 // What the four ports show.

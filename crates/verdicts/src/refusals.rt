@@ -26,9 +26,13 @@ fn packs_back(word: u32) -> bool {
     recipe::pack(kind, fields) == word
 }
 
-// Whether the judge refuses as the reference does, which leaves open what is right. Of each word that is judged, the packing is tried too.
+// Whether the judge refuses as the reference does, which leaves open what is right: a refusal 10 is none if its operands bear it out. Of each
+// word that is judged, the packing is tried too.
 fn agrees(case: Case, refusal: Option<Refusal>) -> bool {
-    let told = case.judged().err().filter(|refusal| refusal.number != 10);
+    let told = case
+        .judged()
+        .err()
+        .filter(|refusal| (refusal.number != 10) | !refusal.shown);
     packs_back(case.word) & (told == refusal)
 }
 

@@ -5,7 +5,7 @@ ghost use Rattle.std.specs.Prelude.{◌≡◌, ◌^◌, ◌<◌};
 ghost use Rattle.hexadecimal.specs.Hex as T;
 ghost use Rattle.word_text.specs.Next as W;
 
-use console::Stdin;
+use console::{Failed, Stdin};
 use hexadecimal::{Hex, Step};
 
 // More bytes than a text has. A text that is over stands here.
@@ -32,12 +32,33 @@ pub fn unread() -> WordText
 }
 
 impl WordText {
-    // The word that the byte at a place ends, if it ends one; the text goes on behind it.
-    fn word_by(&mut self, step: Step, at: usize) -> Option<u32>
+    // Nothing more is taken. What was found last is handed on.
+    fn over(&mut self, found: Option<u32>) -> Option<u32>
+        ensures word { result ≡ found }
+        ensures after { self.new ≡ W.over self.old }
+    {
+        self.hex = hexadecimal::between(false);
+        self.at = MOST;
+        found
+    }
+
+    // What is found by the step of the byte at a place: nothing yet, or the word that it ends. A byte that cannot stand where it is is said on
+    // standard error; there is no word then, and the text is over.
+    fn word_by(
+        &mut self,
+        rt: &HostRuntime,
+        step: Option<Step>,
+        at: usize,
+        program: &[u8],
+    ) -> Option<Option<u32>>
         requires { at < 2 ^ 61 }
-        ensures word { result ≡ W.word_by step }
+        ensures found { result ≡ W.word_by step }
         ensures behind { self.new ≡ W.behind step at self.old }
     {
+        let Some(step) = step else {
+            console::complain(rt, program, at);
+            return Some(self.over(None));
+        };
         match step {
             Step::More(more) => {
                 self.hex = more;
@@ -46,36 +67,51 @@ impl WordText {
             Step::Word(word, rest) => {
                 self.hex = rest;
                 self.at = at + 1;
-                Some(word)
+                Some(Some(word))
             }
+        }
+    }
+
+    // What is found by what was got at a place of standard input; nothing yet where the text only goes on. Where a read failed there is no word,
+    // and the text is over.
+    fn take_got(
+        &mut self,
+        rt: &HostRuntime,
+        got: Result<Option<u8>, Failed>,
+        at: usize,
+        program: &[u8],
+    ) -> Option<Option<u32>>
+        requires { at < 2 ^ 61 }
+        ensures found { result ≡ W.found got self.old }
+        ensures after { self.new ≡ W.after got at self.old }
+    {
+        match got {
+            Ok(Some(byte)) => {
+                let step = hexadecimal::taken(self.hex, byte);
+                self.word_by(rt, step, at, program)
+            }
+            Ok(None) => {
+                let last = last_word(rt, self.hex, at, program);
+                Some(self.over(last))
+            }
+            Err(_) => Some(self.over(None)),
         }
     }
 
     // Takes the next word. There is none where the text has ended, a read failed, or a byte cannot stand where it is. A read that fails is said
     // on standard error, and so is a byte that cannot stand where it is, with the program's name.
-    #[tactic(auto, unfolding(crate::specs::Next::Forward))]
+    #[tactic(auto, using(crate::proofs::Onward::forward), unfolding(crate::specs::Next::Forward))]
     pub fn next(&mut self, rt: &HostRuntime, program: &[u8]) -> Option<u32>
         ensures { W.Forward self.old.at result self.new.at }
     {
         // Kept: this gives one word a call and keeps its place between calls; `console::each_byte` reads to the end.
         for at in self.at..MOST {
-            let Ok(got) = self.stdin.next(rt) else {
-                break;
-            };
-            let Some(byte) = got else {
-                self.at = MOST;
-                return last_word(rt, self.hex, at, program);
-            };
-            let Some(step) = hexadecimal::taken(self.hex, byte) else {
-                console::complain(rt, program, at);
-                break;
-            };
-            if let Some(word) = self.word_by(step, at) {
-                return Some(word);
+            let got = self.stdin.next(rt);
+            if let Some(found) = self.take_got(rt, got, at, program) {
+                return found;
             }
         }
-        self.at = MOST;
-        None
+        self.over(None)
     }
 }
 

@@ -71,18 +71,24 @@ fn work(rt: &HostRuntime, bench: Bench) -> Result<(), Failed> {
     Ok(())
 }
 
+// How the program is called.
+const USAGE: [u8; 43] = *b"usage: work_bench JOB [MAPPING] < COMMANDS\n";
+
 fn main(rt: HostRuntime) {
     let run = arguments::may_run(
         &rt,
         2,
         3,
-        b"usage: work_bench JOB [MAPPING] < COMMANDS\n",
-        b"\n\
+        &USAGE,
+        &[
+            &USAGE,
+            b"\n\
         Opens the job of a file, and answers commands, one a line: bind WORD (a rule's eight hexadecimal digits), release F (a\n\
         function's number in decimal), price, show, finish. A finish prints the mapping and writes its words to the file\n\
         MAPPING, if it is named. Empty lines, and lines that begin with #, are passed over.\n\
         \n\
         example: printf 'bind 50854960\\nprice\\nshow\\n' | work_bench job\n",
+        ],
     );
     if run {
         let _ = open_and_work(&rt);
@@ -96,7 +102,7 @@ fn open_and_work(rt: &HostRuntime) -> Result<(), Failed> {
     let opened = bench_answers::open(input, &mut text);
     console::print(rt, text.as_bytes())?;
     match opened {
-        Some(bench) => work(rt, bench),
-        None => Ok(()),
+        Ok(bench) => work(rt, bench),
+        Err(_) => Ok(()),
     }
 }
