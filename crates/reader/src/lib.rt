@@ -72,6 +72,7 @@ fn most_words(file: File) -> usize
 }
 
 // The words of a file one by one: refusal 1, or the first of 2 to 6.
+#[inline(always)]
 #[tactic(auto, unfolding(crate::specs::Words::words_read))]
 fn words_read(file: File, words: &[u32]) -> Result<State, Refusal>
     ensures { result ≡ W.words_read file words.now }
